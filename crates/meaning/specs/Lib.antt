@@ -1,0 +1,6 @@
+pub mod Refusals
+pub mod Decimal
+pub mod Layout
+pub mod Bits
+pub mod Reading
+pub mod Writing
