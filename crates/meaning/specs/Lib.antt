@@ -4,3 +4,5 @@ pub mod Layout
 pub mod Bits
 pub mod Reading
 pub mod Writing
+pub mod Grammar
+pub mod Promises
