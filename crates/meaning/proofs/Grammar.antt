@@ -216,11 +216,11 @@ outcome t x h =
     (rw strip-number at (seven (negative (t .sign)) x (stripZeros (digitsOf t)) (strip-digits (digitsOf t) (h .digits)) (strip-leading (digitsOf t))))
 
 pub demand3 : Demand3
-unfolding Demand3 Outcome
+unfolding Outcome
 demand3 t x h = outcome t x h
 
 pub refused-only-by-value : RefusedOnlyByValue
-unfolding RefusedOnlyByValue Outcome
+unfolding Outcome
 refused-only-by-value t x r h e =
     ⊎-elim
     (λ k. absurd (let f = k .1 .is in let z : _≡_ {A = ℕ} 0 1 = cc in omega arith))

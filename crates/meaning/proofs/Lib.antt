@@ -3,3 +3,4 @@ pub mod Digits
 pub mod Stored
 pub mod Grammar
 pub mod Round
+pub mod Fields

@@ -203,7 +203,7 @@ finite-back s e c b h =
     read-back s (magnitude (decimal c) e) c (e + low) h (omega arith) (omega (arith, range)) k ∙ rw q
 
 pub reads-what-was-written : ReadsWhatWasWritten
-unfolding ReadsWhatWasWritten writeText readText step2 same bytes
+unfolding writeText readText step2 same bytes
 reads-what-was-written (nan s q) h = refl
 reads-what-was-written (infinity true) h = refl
 reads-what-was-written (infinity false) h = refl

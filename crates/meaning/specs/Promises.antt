@@ -19,32 +19,32 @@ use Rattle.meaning.specs.Grammar.{Sign, FiniteText, Grammatical, Word, S
 -- ---- the layout
 
 -- the standard's account and 01's are one
-unfoldable pub TwoAccountsAgree : Type 0
+abbrev pub TwoAccountsAgree : Type 0
 TwoAccountsAgree = (n : ℕ) → decode n ≡ decodeBits n
 
-unfoldable pub DecodesWhatWasEncoded : Type 0
+abbrev pub DecodesWhatWasEncoded : Type 0
 DecodesWhatWasEncoded = (v : Decimal) → InRange v → decode (encode v) ≡ v
 
-unfoldable pub EncodesExactlyTheCanonical : Type 0
+abbrev pub EncodesExactlyTheCanonical : Type 0
 EncodesExactlyTheCanonical = (n : ℕ) → n < 2 ^ 128 → (encode (decode n) ≡ n) ↔ (canonical n ≡ true)
 
 -- ---- reading
 
 -- demand 3: accepted exactly when its value can be stored, which is then kept; else Overflow or InexactRounding
-unfoldable pub Demand3 : Type 0
+abbrev pub Demand3 : Type 0
 Demand3 =
     (t : FiniteText) (x : ℕ) → Grammatical t x →
     (Storable (wholeOf t) x × Kept (negative (t .sign)) (wholeOf t) x (readText (textOf t)))
     ⊎ ((Storable (wholeOf t) x → ⊥) × ((readText (textOf t) ≡ refused overflow) ⊎ (readText (textOf t) ≡ refused inexactRounding)))
 
 -- a text of the grammar with E and E-F in range is refused by no other number
-unfoldable pub RefusedOnlyByValue : Type 0
+abbrev pub RefusedOnlyByValue : Type 0
 RefusedOnlyByValue =
     (t : FiniteText) (x : ℕ) (r : Refusal) → Grammatical t x → readText (textOf t) ≡ refused r →
     (r ≡ overflow) ⊎ (r ≡ inexactRounding)
 
 -- every accepted text is one of the grammar's or a special word with its sign
-unfoldable pub AcceptsOnlyTheGrammar : Type 0
+abbrev pub AcceptsOnlyTheGrammar : Type 0
 AcceptsOnlyTheGrammar =
     (s : List ℕ) (v : Decimal) → readText s ≡ accepted v →
     ((t : FiniteText) × (x : ℕ) × (s ≡ textOf t) × Grammatical t x)
@@ -52,10 +52,10 @@ AcceptsOnlyTheGrammar =
 
 -- ---- writing
 
-unfoldable pub TextHasAtMost42 : Type 0
+abbrev pub TextHasAtMost42 : Type 0
 TextHasAtMost42 = (v : Decimal) → InRange v → length (writeText v) ≤ 42
 
-unfoldable pub DebugFormHas44 : Type 0
+abbrev pub DebugFormHas44 : Type 0
 DebugFormHas44 = (s : List ℕ) → length s ≡ 16 → length (debugText s) ≡ 44
 
 -- ---- the round trip
@@ -66,9 +66,9 @@ plainNan (nan s q) = nan false false
 plainNan (infinity s) = infinity s
 plainNan (finite s e c) = finite s e c
 
-unfoldable pub ReadsWhatWasWritten : Type 0
+abbrev pub ReadsWhatWasWritten : Type 0
 ReadsWhatWasWritten = (v : Decimal) → InRange v → readText (writeText v) ≡ accepted (plainNan v)
 
 -- the same of stored bytes, canonical or not: what the text of n reads as is stored as 01 says
-unfoldable pub StoredComesBack : Type 0
+abbrev pub StoredComesBack : Type 0
 StoredComesBack = (n : ℕ) → n < 2 ^ 128 → (v : Decimal) × (readText (writeText (decode n)) ≡ accepted v) × (encode v ≡ comesBackAs n)
