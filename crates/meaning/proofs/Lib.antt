@@ -4,3 +4,4 @@ pub mod Stored
 pub mod Grammar
 pub mod Round
 pub mod Fields
+pub mod Accepted
