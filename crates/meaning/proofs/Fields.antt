@@ -16,7 +16,7 @@ use Rattle.meaning.specs.Bits.{bits, bit, special, second, decodeBits, c
 use Rattle.meaning.specs.Promises.{TwoAccountsAgree, DecodesWhatWasEncoded, EncodesExactlyTheCanonical}
 use Rattle.meaning.proofs.Numbers.{le-or}
 
-eq-or : (a b : ℕ) → (a ≡ b) ⊎ (a ≡ b → ⊥)
+pub eq-or : (a b : ℕ) → (a ≡ b) ⊎ (a ≡ b → ⊥)
 eq-or a b =
     ⊎-elim (λ h. ⊎-elim (λ g. inl (omega arith)) (λ g. inr (λ e. omega arith)) (le-or b a)) (λ h. inr (λ e. omega arith)) (le-or a b)
 
@@ -120,9 +120,9 @@ decodes-in-range n =
       | isNan e f ↦ rw (decodes-nan n e f) tt
       | isInfinity e f ↦ rw (decodes-infinity n e f) tt
       | isSecond e f ↦ rw (decodes-second n e f)
-        (second-exponent (n / 2 ^ 111) (rw (above n 111 12) at e) (rw (above n 111 14) at f), lit< tt)
+          (second-exponent (n / 2 ^ 111) (rw (above n 111 12) at e) (rw (above n 111 14) at f), lit< tt)
       | isFirst e f ↦ rw (decodes-first n e f)
-        (first-exponent (n / 2 ^ 113) (rw (above n 113 12) at f), small-or-zero (bits n 15 127))
+          (first-exponent (n / 2 ^ 113) (rw (above n 113 12) at f), small-or-zero (bits n 15 127))
     ]
 
 -- ---- a finite value of the first form, from its parts: h is what stands above the coefficient
@@ -174,6 +174,7 @@ parts s e c he hc = go (encode (finite s e c)) (encodes-finite s e c)
   where
     h : ℕ
     h = bitOf s * 2 ^ 14 + e
+
     go : (n : ℕ) → n ≡ h * 2 ^ 113 + c → Parts n s e c
     go n f =
         let top : n / 2 ^ 113 ≡ h = ap (λ (m : ℕ). m / 2 ^ 113) f ∙ digits-div h (below-113 c hc) in

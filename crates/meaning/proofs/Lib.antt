@@ -5,3 +5,6 @@ pub mod Grammar
 pub mod Round
 pub mod Fields
 pub mod Accepted
+pub mod Edges
+pub mod Lengths
+pub mod Back

@@ -70,6 +70,7 @@ read-back s text c x h l u k = go s
         let t : FiniteText = record { sign = s; whole = k .whole; fraction = k .frac; power = k .pow } in
         let o = outcome t x (record { digits = k .digits; some = k .some; written = k .written }) in
         exact (negative s) c x _ h l u (rw (k .value) at o)
+
     go : (s : Bool) → readText (signed s text) ≡ accepted (finite s (x - low) c)
     go true = rw (k .is) (read minus)
     go false = rw (k .is) (read none)

@@ -5,4 +5,6 @@ pub mod Bits
 pub mod Reading
 pub mod Writing
 pub mod Grammar
+pub mod Answers
+pub mod Rows
 pub mod Promises

@@ -1,9 +1,9 @@
 -- The promises that are about the definitions alone, each as a statement. Where each is proved: docs/PROMISES.md.
-use Prim.Native.Nat.{ℕ, _+_, _^_, _≤_, _<_}
+use Prim.Native.Nat.{ℕ, _-_, _^_, _≤_, _<_}
 use mathlib.Core.Path.{_≡_}
 use mathlib.Core.Logic.{_⊎_, _↔_}
 use mathlib.Core.Bool.{Bool, true, false}
-use mathlib.Core.List.{List, _++_}
+use mathlib.Core.List.{List, _++_, map}
 use lib.ListN.{length}
 use Rattle.meaning.specs.Refusals.{Refusal}
 use Rattle.meaning.specs.Refusals.Refusal.{overflow, inexactRounding}
@@ -14,6 +14,7 @@ use Rattle.meaning.specs.Bits.{decodeBits, canonical, comesBackAs}
 use Rattle.meaning.specs.Reading.{Reading, readText}
 use Rattle.meaning.specs.Reading.Reading.{refused, accepted}
 use Rattle.meaning.specs.Writing.{writeText, debugText}
+use Rattle.meaning.specs.Rows.{Row, rows, rowOf}
 use Rattle.meaning.specs.Grammar.{Sign, FiniteText, Grammatical, Word, Storable, Kept, signText, negative, textOf, wholeOf}
 
 -- ---- the layout
@@ -55,6 +56,10 @@ AcceptsOnlyTheGrammar =
 abbrev pub TextHasAtMost42 : Type 0
 TextHasAtMost42 = (v : Decimal) → InRange v → length (writeText v) ≤ 42
 
+-- both notations reach it
+abbrev pub FortyTwoIsMet : Type 0
+FortyTwoIsMet = (length (writeText (finite true 6137 (10 ^ 34 - 1))) ≡ 42) × (length (writeText (finite true 0 (10 ^ 34 - 1))) ≡ 42)
+
 abbrev pub DebugFormHas44 : Type 0
 DebugFormHas44 = (s : List ℕ) → length s ≡ 16 → length (debugText s) ≡ 44
 
@@ -72,3 +77,9 @@ ReadsWhatWasWritten = (v : Decimal) → InRange v → readText (writeText v) ≡
 -- the same of stored bytes, canonical or not: what the text of n reads as is stored as 01 says
 abbrev pub StoredComesBack : Type 0
 StoredComesBack = (n : ℕ) → n < 2 ^ 128 → (v : Decimal) × (readText (writeText (decode n)) ≡ accepted v) × (encode v ≡ comesBackAs n)
+
+-- ---- the table of edges
+
+-- each row's answer, bytes and written text are what the definitions give for its text
+abbrev pub EveryRowHolds : Type 0
+EveryRowHolds = rows ≡ map (λ (r : Row). rowOf (r .text)) rows
