@@ -1,4 +1,11 @@
 // The 16 stored bytes of a decimal, taken apart and put together.
+ghost use mathlib.Core.Path.{_≡_};
+ghost use Prim.Native.Nat.{_+_, _*_, _^_, _<_, _≤_};
+ghost use Rattle.meaning.specs.Decimal.{InRange, Decimal};
+ghost use Rattle.meaning.specs.Layout.{stored, bytesOf, orZero, decode, encode, bitOf};
+ghost use Rattle.limbs.specs.Value.{value};
+ghost use Rattle.layout.specs.Unpacked.{meant, meantBy};
+
 pub enum Kind {
     Nan { signalling: bool },
     Infinity,
@@ -11,4 +18,164 @@ pub struct Unpacked {
     pub kind: Kind,
     pub exponent: u32,
     pub coefficient: [u32; 4],
+}
+
+// A NaN or an infinity, and a finite value.
+pub fn special(negative: bool, kind: Kind) -> Unpacked
+    ensures { λ r. ⌜ meant r ≡ meantBy kind negative 0 0 ⌝ }
+{
+    Unpacked {
+        negative: negative,
+        kind: kind,
+        exponent: 0,
+        coefficient: [0, 0, 0, 0],
+    }
+}
+
+pub fn finite(negative: bool, exponent: u32, coefficient: [u32; 4]) -> Unpacked
+    ensures { λ r. ⌜ meant r ≡ Decimal.finite negative exponent (value coefficient) ⌝ }
+{
+    Unpacked {
+        negative: negative,
+        kind: Kind::Finite,
+        exponent: exponent,
+        coefficient: coefficient,
+    }
+}
+
+// A limb of four bytes, lowest first.
+fn word(b0: u8, b1: u8, b2: u8, b3: u8) -> u32
+    ensures { λ r. ⌜ r ≡ b0 + 256 * (b1 + 256 * (b2 + 256 * b3)) ⌝ }
+{
+    b0 as u32 + 256 * (b1 as u32 + 256 * (b2 as u32 + 256 * b3 as u32))
+}
+
+fn words(b: [u8; 16]) -> [u32; 4]
+    ensures { λ r. ⌜ value r ≡ stored b ⌝ }
+{
+    [
+        word(b[0], b[1], b[2], b[3]),
+        word(b[4], b[5], b[6], b[7]),
+        word(b[8], b[9], b[10], b[11]),
+        word(b[12], b[13], b[14], b[15]),
+    ]
+}
+
+// A coefficient above 10^34 - 1 reads as zero.
+fn or_zero(c: [u32; 4]) -> [u32; 4]
+    ensures { λ r. ⌜ value r ≡ orZero (value c) ⌝ }
+{
+    if limbs::powers::within(c) {
+        c
+    } else {
+        [0, 0, 0, 0]
+    }
+}
+
+// rest is the highest limb without its sign bit; NaN, infinity and the second finite form begin at these numbers.
+fn unpack_words(w: [u32; 4]) -> Unpacked
+    ensures { λ r. ⌜ meant r ≡ decode (value w) ⌝ }
+{
+    let top = w[3];
+    let negative = 0x8000_0000 <= top;
+    let rest = top % 0x8000_0000;
+    if 0x7c00_0000 <= rest {
+        return special(
+            negative,
+            Kind::Nan {
+                signalling: 0x7e00_0000 <= rest,
+            },
+        );
+    }
+    if 0x7800_0000 <= rest {
+        return special(negative, Kind::Infinity);
+    }
+    if 0x6000_0000 <= rest {
+        return finite(negative, rest / 0x8000 % 0x4000, [0, 0, 0, 0]);
+    }
+    let c = [w[0], w[1], w[2], rest % 0x2_0000];
+    finite(negative, rest / 0x2_0000, or_zero(c))
+}
+
+pub fn unpack(b: [u8; 16]) -> Unpacked
+    ensures { λ r. ⌜ meant r ≡ decode (stored b) ⌝ }
+{
+    unpack_words(words(b))
+}
+
+// The bytes of four limbs, lowest first.
+fn bytes_of(w: [u32; 4]) -> [u8; 16]
+    ensures { λ r. ⌜ r ≡ bytesOf 16 (value w) ⌝ }
+{
+    let w0 = w[0];
+    let w1 = w[1];
+    let w2 = w[2];
+    let w3 = w[3];
+    [
+        (w0 % 256) as u8,
+        (w0 / 0x100 % 256) as u8,
+        (w0 / 0x1_0000 % 256) as u8,
+        (w0 / 0x100_0000 % 256) as u8,
+        (w1 % 256) as u8,
+        (w1 / 0x100 % 256) as u8,
+        (w1 / 0x1_0000 % 256) as u8,
+        (w1 / 0x100_0000 % 256) as u8,
+        (w2 % 256) as u8,
+        (w2 / 0x100 % 256) as u8,
+        (w2 / 0x1_0000 % 256) as u8,
+        (w2 / 0x100_0000 % 256) as u8,
+        (w3 % 256) as u8,
+        (w3 / 0x100 % 256) as u8,
+        (w3 / 0x1_0000 % 256) as u8,
+        (w3 / 0x100_0000 % 256) as u8,
+    ]
+}
+
+fn bit_of(b: bool) -> u32
+    ensures { λ r. ⌜ (r ≡ bitOf b) × (r < 2) ⌝ }
+{
+    if b { 1 } else { 0 }
+}
+
+// The highest limb of a NaN, of an infinity and of a finite value, whose coefficient has `high` there.
+fn nan_top(negative: bool, signalling: bool) -> u32
+    ensures { λ r. ⌜ r ≡ bitOf negative * 2 ^ 31 + 31 * 2 ^ 26 + bitOf signalling * 2 ^ 25 ⌝ }
+{
+    bit_of(negative) * 0x8000_0000 + 0x7c00_0000 + bit_of(signalling) * 0x200_0000
+}
+
+fn infinity_top(negative: bool) -> u32
+    ensures { λ r. ⌜ r ≡ bitOf negative * 2 ^ 31 + 30 * 2 ^ 26 ⌝ }
+{
+    bit_of(negative) * 0x8000_0000 + 0x7800_0000
+}
+
+fn finite_top(negative: bool, exponent: u32, high: u32) -> u32
+    requires { ⌜ (exponent < 2 ^ 14) × (high < 2 ^ 17) ⌝ }
+    ensures { λ r. ⌜ r ≡ bitOf negative * 2 ^ 31 + exponent * 2 ^ 17 + high ⌝ }
+{
+    bit_of(negative) * 0x8000_0000 + exponent * 0x2_0000 + high
+}
+
+fn pack_words(u: Unpacked) -> [u32; 4]
+    requires { ⌜ InRange (meant u) ⌝ }
+    ensures { λ r. ⌜ value r ≡ encode (meant u) ⌝ }
+{
+    let kind = u.kind;
+    match kind {
+        Kind::Nan { signalling } => [0, 0, 0, nan_top(u.negative, signalling)],
+        Kind::Infinity => [0, 0, 0, infinity_top(u.negative)],
+        Kind::Finite => {
+            let c = u.coefficient;
+            [c[0], c[1], c[2], finite_top(u.negative, u.exponent, c[3])]
+        }
+    }
+}
+
+// Always the first finite form; what is not said is zero.
+pub fn pack(u: Unpacked) -> [u8; 16]
+    requires { ⌜ InRange (meant u) ⌝ }
+    ensures { λ r. ⌜ r ≡ bytesOf 16 (encode (meant u)) ⌝ }
+{
+    bytes_of(pack_words(u))
 }

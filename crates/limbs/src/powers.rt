@@ -1,6 +1,7 @@
 // The powers of ten from 10^0 to 10^34, as rows of four limbs.
 ghost use mathlib.Core.Path.{_≡_};
 ghost use Prim.Native.Nat.{_^_, _<_};
+ghost use lib.Dec.{ltb};
 ghost use Rattle.limbs.specs.Value.{value};
 
 const POWERS: [[u32; 4]; 35] = [
@@ -46,4 +47,11 @@ pub fn power(k: usize) -> [u32; 4]
     ensures { λ r. ⌜ value r ≡ 10 ^ k ⌝ }
 {
     POWERS[k]
+}
+
+// c is at most 10^34 - 1.
+pub fn within(c: [u32; 4]) -> bool
+    ensures { λ r. ⌜ r ≡ ltb (value c) (10 ^ 34) ⌝ }
+{
+    crate::less(c, power(34))
 }

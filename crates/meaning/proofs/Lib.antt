@@ -8,3 +8,4 @@ pub mod Accepted
 pub mod Edges
 pub mod Lengths
 pub mod Back
+pub mod Bytes

@@ -1,0 +1,12 @@
+use mathlib.Core.Path.{refl}
+use Rattle.layout.specs.Unpacked.{meant}
+use borrow.Author.Needs.{needs}
+use Rattle.layout.proofs.finite.Statement.{statement}
+use Rattle.layout.proofs.finite.Tie as tie
+
+returns : tie.Need-returns
+unfolding meant
+returns c = refl
+
+pub finite-spec : {M : Type 1} → statement M
+finite-spec = tie.close (tie.spec returns)

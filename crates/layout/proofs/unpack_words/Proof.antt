@@ -1,0 +1,53 @@
+use mathlib.Core.Path.{_≡_, sym, ap, _∙_}
+use Prim.Native.Nat.{ℕ, _+_, _/_, _%_, _^_}
+use native.Mathlib.Omega.{arith}
+use lib.ListN.{getD}
+use mir.Syntax.{w32}
+use mir.Val.{Fits}
+use Rattle.meaning.specs.Layout.{orZero}
+use Rattle.limbs.specs.Value.{value}
+use Rattle.layout.proofs.Laws.{top-bits, low-bits, decode-nan, decode-infinity, decode-second, decode-first}
+use borrow.Author.Needs.{needs}
+use Rattle.layout.proofs.unpack_words.Statement.{statement}
+use Rattle.layout.proofs.unpack_words.Tie as tie
+
+limb : (s : tie.Start) (i : ℕ) → Fits w32 (getD (s .args .t1) i 0)
+limb s i = search needs
+
+-- a part of the number in its highest limb
+at-top : (s : tie.Start) (j : ℕ) → value (s .args .t1) / 2 ^ (96 + j) ≡ getD (s .args .t1) 3 0 / 2 ^ j
+at-top s j = top-bits (s .args .t1) (search needs) (limb s) j
+
+returns : tie.Need-returns
+returns c = c .special .ensures ∙ decode-nan _ _ (limb (c .before .before) 3) (at-top (c .before .before)) (c .before .if1 .taken)
+
+returns-2 : tie.Need-returns-2
+returns-2 c = c .special2 .ensures ∙ decode-infinity _ _ (limb (c .before .before .before) 3) (at-top (c .before .before .before)) (omega arith) (c .before .if2 .taken)
+
+returns-3 : tie.Need-returns-3
+returns-3 c = c .finite .ensures ∙ decode-second _ _ (limb (c .before .before .before .before) 3) (at-top (c .before .before .before .before)) (omega arith) (c .before .if3 .taken)
+
+returns-4 : tie.Need-returns-4
+returns-4 c =
+    let s = c .before .before .before .before .before in
+    c .finite2 .ensures
+    ∙ decode-first _ _ (limb s 3) (at-top s) (omega arith) _
+    (c .before .or-zero .ensures ∙ ap orZero (low-bits (s .args .t1) (search needs) (limb s)))
+
+pub unpack-words-spec : {M : Type 1} → statement M
+unpack-words-spec =
+    tie.close
+    (tie.spec
+    (λ c. search needs)
+    (λ c κs. search needs)
+    returns
+    (λ c κs. search needs)
+    returns-2
+    (λ c κs. search needs)
+    returns-3
+    (λ c. search needs)
+    (λ c. search needs)
+    (λ c. search needs)
+    (λ c κs. search needs)
+    (λ c κs. search needs)
+    returns-4)
