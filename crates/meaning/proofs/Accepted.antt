@@ -9,18 +9,20 @@ use lib.Dec.{eqb, leb, ltb}
 use lib.ListN.{length, take, drop, replicate, take-append-drop}
 use borrow.Author.Tests.{eqb-true, eqb-false, leb-true, ltb-true, ne-eqb}
 use Rattle.meaning.specs.Refusals.{Refusal}
-use Rattle.meaning.specs.Decimal.{Decimal}
+use Rattle.meaning.specs.Decimal.{Decimal, InRange}
 use Rattle.meaning.specs.Decimal.Decimal.{nan, infinity, finite}
 use Rattle.meaning.specs.Reading.{Reading, Written, bytes, lower, isDigit, same, number, allDigits, allZeros, holds, decimalPart, before, from, fraction, someDigits, origin, high, low, lost, kept, exponent, upward, downward, stripZeros, step2, step3, step4, step5, step6, step7, step8, step9, step10, step11, readText}
 use Rattle.meaning.specs.Reading.Reading.{refused, accepted}
 use Rattle.meaning.specs.Reading.Written.{written, wrong}
-use Rattle.meaning.specs.Grammar.{Sign, Fraction, Power, FiniteText, WrittenE, SignedE, Grammatical, Word, signText, negative, fractionText, after, letter, powerText, textOf, digitsOf}
+use Rattle.meaning.specs.Grammar.{Sign, Fraction, Power, FiniteText, WrittenE, SignedE, Grammatical, Kept, Word, signText, negative, fractionText, after, letter, powerText, textOf, digitsOf}
 use Rattle.meaning.specs.Grammar.Sign.{none, plus, minus}
 use Rattle.meaning.specs.Grammar.Fraction.{noPoint, point}
 use Rattle.meaning.specs.Grammar.Power.{noPower, power}
 use Rattle.meaning.specs.Grammar.Word.{isNan, isSnan, isInfinity, isInf}
-use Rattle.meaning.specs.Promises.{AcceptsOnlyTheGrammar}
-use Rattle.meaning.proofs.Numbers.{both, both-of, byte-digit, le-or, zeros-zeros}
+use Rattle.meaning.specs.Promises.{AcceptsOnlyTheGrammar, ReadsInRange}
+use Rattle.meaning.proofs.Numbers.{both, both-of, byte-digit}
+use Rattle.meaning.proofs.Stored.{Outcome, range}
+use Rattle.meaning.proofs.Grammar.{outcome}
 
 -- ---- truth values
 
@@ -409,3 +411,27 @@ accepts-only-the-grammar s v e =
     (λ f. inl (f .0, f .1, r .2 ∙ f .2, f .3))
     (λ k. inr (r .0, r .1, r .2, k))
     (two (r .0) (r .1) v (sym (r .3) ∙ e))
+
+-- ---- what is accepted is in range
+
+word-in-range : {w : List ℕ} {sign : Bool} {v : Decimal} → Word w sign v → InRange v
+word-in-range (isNan e) = tt
+word-in-range (isSnan e) = tt
+word-in-range (isInfinity e) = tt
+word-in-range (isInf e) = tt
+
+kept-in-range : (sign : Bool) (a x : ℕ) (r : Reading) (v : Decimal) → Kept sign a x r → r ≡ accepted v → InRange v
+kept-in-range sign a x r v k e =
+    let f : finite sign (k .field) (k .coefficient) ≡ v = (let g = k .is in cc) in
+    subst (λ (d : Decimal). InRange d) f (omega (arith, k .stores .below, range), k .stores .small)
+
+pub reads-in-range : ReadsInRange
+unfolding Outcome
+reads-in-range s v e =
+    ⊎-elim
+    (λ f. ⊎-elim
+    (λ k. kept-in-range _ _ _ _ v (k .1) (ap readText (sym (f .2)) ∙ e))
+    (λ k. ⊎-elim (λ r. never (sym r ∙ ap readText (sym (f .2)) ∙ e)) (λ r. never (sym r ∙ ap readText (sym (f .2)) ∙ e)) (k .1))
+    (outcome (f .0) (f .1) (f .3)))
+    (λ f. word-in-range (f .3))
+    (accepts-only-the-grammar s v e)

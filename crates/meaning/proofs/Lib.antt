@@ -9,3 +9,4 @@ pub mod Edges
 pub mod Lengths
 pub mod Back
 pub mod Bytes
+pub mod Records

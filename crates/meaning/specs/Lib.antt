@@ -6,5 +6,6 @@ pub mod Reading
 pub mod Writing
 pub mod Grammar
 pub mod Answers
+pub mod Stream
 pub mod Rows
 pub mod Promises

@@ -14,6 +14,7 @@ use Rattle.meaning.specs.Bits.{decodeBits, canonical, comesBackAs}
 use Rattle.meaning.specs.Reading.{Reading, readText}
 use Rattle.meaning.specs.Reading.Reading.{refused, accepted}
 use Rattle.meaning.specs.Writing.{writeText, debugText}
+use Rattle.meaning.specs.Stream.{lineRecord}
 use Rattle.meaning.specs.Rows.{Row, rows, rowOf}
 use Rattle.meaning.specs.Grammar.{Sign, FiniteText, Grammatical, Word, Storable, Kept, signText, negative, textOf, wholeOf}
 
@@ -51,6 +52,10 @@ AcceptsOnlyTheGrammar =
     ((t : FiniteText) × (x : ℕ) × (s ≡ textOf t) × Grammatical t x)
     ⊎ ((g : Sign) × (w : List ℕ) × (s ≡ signText g ++ w) × Word w (negative g) v)
 
+-- what is accepted is in range of the format
+abbrev pub ReadsInRange : Type 0
+ReadsInRange = (s : List ℕ) (v : Decimal) → readText s ≡ accepted v → InRange v
+
 -- ---- writing
 
 abbrev pub TextHasAtMost42 : Type 0
@@ -62,6 +67,13 @@ FortyTwoIsMet = (length (writeText (finite true 6137 (10 ^ 34 - 1))) ≡ 42) × 
 
 abbrev pub DebugFormHas44 : Type 0
 DebugFormHas44 = (s : List ℕ) → length s ≡ 16 → length (debugText s) ≡ 44
+
+abbrev pub RecordHasAtMost78 : Type 0
+RecordHasAtMost78 = (s : List ℕ) → length (lineRecord s) ≤ 78
+
+-- `-9.999..E-6143`
+abbrev pub SeventyEightIsMet : Type 0
+SeventyEightIsMet = (s : List ℕ) × (length (lineRecord s) ≡ 78)
 
 -- ---- the round trip
 
