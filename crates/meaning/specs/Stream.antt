@@ -1,14 +1,14 @@
 -- The record of a text, and the records of a stream of lines: document 01, 'The line program'.
-use Prim.Native.Nat.{ℕ}
-use mathlib.Core.Bool.{cond}
+use Prim.Native.Nat.{ℕ, _+_, _-_, _*_}
+use mathlib.Core.Bool.{Bool, true, cond, _&&_}
 use mathlib.Core.List.{List, [], _∷_, _++_}
 use lib.ListN.{length}
-use lib.Dec.{eqb, leb}
-use Rattle.meaning.specs.Refusals.Refusal.{lineTooLong}
-use Rattle.meaning.specs.Layout.{bytesOf, encode}
-use Rattle.meaning.specs.Reading.{Reading, readText}
+use lib.Dec.{eqb, leb, ltb}
+use Rattle.meaning.specs.Refusals.Refusal.{lineTooLong, malformedBytes}
+use Rattle.meaning.specs.Layout.{stored, bytesOf, decode, encode}
+use Rattle.meaning.specs.Reading.{Reading, isDigit, lower, readText}
 use Rattle.meaning.specs.Reading.Reading.{refused, accepted}
-use Rattle.meaning.specs.Writing.{decimal, hexes, writeText}
+use Rattle.meaning.specs.Writing.{decimal, hexes, writeText, debugText}
 use Rattle.meaning.specs.Answers.{numberGiven}
 
 -- 32 hex digits, a tab and the written text; `-` twice after a refusal
@@ -29,10 +29,32 @@ unfoldable pub linesAfter : List ℕ → List ℕ → List (List ℕ)
 linesAfter p [] = cond (eqb (length p) 0) [] (p ∷ [])
 linesAfter p (b ∷ s) = cond (eqb b 10) (p ∷ linesAfter [] s) (linesAfter (p ++ (b ∷ [])) s)
 
-unfoldable pub recordsOf : List (List ℕ) → List ℕ
-recordsOf [] = []
-recordsOf (l ∷ ls) = lineRecord l ++ recordsOf ls
+unfoldable pub recordsOf : (List ℕ → List ℕ) → List (List ℕ) → List ℕ
+recordsOf f [] = []
+recordsOf f (l ∷ ls) = f l ++ recordsOf f ls
 
--- one record a line
-unfoldable pub streamRecords : List ℕ → List ℕ
-streamRecords s = recordsOf (linesAfter [] s)
+-- one record a line; f gives a line's record
+unfoldable pub streamRecords : (List ℕ → List ℕ) → List ℕ → List ℕ
+streamRecords f s = recordsOf f (linesAfter [] s)
+
+-- ---- stored values, as lines of 32 hex digits in either case
+
+-- 16 and more: no hex digit
+abbrev pub hexValue : ℕ → ℕ
+hexValue b = cond (isDigit b) (b - 48) (cond (leb 97 (lower b) && leb (lower b) 102) (lower b - 87) 16)
+
+unfoldable pub allHex : List ℕ → Bool
+allHex [] = true
+allHex (b ∷ s) = ltb (hexValue b) 16 && allHex s
+
+unfoldable pub unhex : List ℕ → List ℕ
+unhex [] = []
+unhex (a ∷ []) = []
+unhex (a ∷ b ∷ s) = 16 * hexValue a + hexValue b ∷ unhex s
+
+-- 0, the written text and the debug form; 8 and `-` twice for any other line
+unfoldable pub storedRecord : List ℕ → List ℕ
+storedRecord s =
+    cond (eqb (length s) 32 && allHex s)
+    (48 ∷ 9 ∷ writeText (decode (stored (unhex s))) ++ 9 ∷ debugText (unhex s) ++ 10 ∷ [])
+    (recordText (refused malformedBytes))
