@@ -50,7 +50,7 @@ allHex (b ∷ s) = ltb (hexValue b) 16 && allHex s
 unfoldable pub unhex : List ℕ → List ℕ
 unhex [] = []
 unhex (a ∷ []) = []
-unhex (a ∷ b ∷ s) = 16 * hexValue a + hexValue b ∷ unhex s
+unhex (a ∷ b ∷ s) = (16 * hexValue a + hexValue b) ∷ unhex s
 
 -- 0, the written text and the debug form; 8 and `-` twice for any other line
 unfoldable pub storedRecord : List ℕ → List ℕ
