@@ -1,0 +1,53 @@
+/* Decimal text to the 16 stored bytes of decimal128 and back (IEEE 754-2008, binary integer form, lowest byte first).
+ *
+ * Every function answers on any bytes and any lengths, 0 included, and returns the number of its answer: DECIMAL128_ACCEPTED,
+ * or which refusal it is. A pointer is never null, and an output overlaps no other argument: that is C's side of the bargain.
+ * A length of 0 still wants a pointer that is not null. */
+#ifndef DECIMAL128_H
+#define DECIMAL128_H
+
+#include <stddef.h>
+#include <stdint.h>
+
+#ifdef __cplusplus
+extern "C" {
+#endif
+
+enum decimal128_number {
+    DECIMAL128_ACCEPTED = 0,
+    DECIMAL128_EMPTY_EXPONENT = 1,
+    DECIMAL128_INVALID_EXPONENT = 2,
+    DECIMAL128_INVALID_COEFFICIENT = 3,
+    DECIMAL128_OVERFLOW = 4,
+    DECIMAL128_UNDERFLOW = 5,
+    DECIMAL128_INEXACT_ROUNDING = 6,
+    DECIMAL128_UNPARSEABLE = 7,
+    DECIMAL128_MALFORMED_BYTES = 8,
+    DECIMAL128_NO_ROOM = 9
+};
+
+/* No text is longer than this, and no record; every debug form has just this length. */
+enum { DECIMAL128_TEXT = 42, DECIMAL128_DEBUG = 44, DECIMAL128_RECORD = 78 };
+
+/* Reads a text of len bytes. Accepted: the value's 16 bytes are in out16. Refused, 1 to 7: out16 holds 16 zero bytes. */
+uint32_t decimal128_read(const uint8_t *text, size_t len, uint8_t out16[16]);
+
+/* Writes the text of a stored value. Accepted: the text is the first *len bytes of buf, and the bytes after it stand as they
+ * were. NoRoom, exactly where cap is less than the text's length: *len is 0 and no byte of buf is changed. */
+uint32_t decimal128_write(const uint8_t bytes16[16], uint8_t *buf, size_t cap, size_t *len);
+
+/* Writes the debug form, Decimal128(..) with 32 hex digits; otherwise as decimal128_write. */
+uint32_t decimal128_debug(const uint8_t bytes16[16], uint8_t *buf, size_t cap, size_t *len);
+
+/* Takes 16 bytes as they are. A len other than 16 is refused with 8, MalformedBytes, and out16 holds 16 zero bytes. */
+uint32_t decimal128_parse(const uint8_t *bytes, size_t len, uint8_t out16[16]);
+
+/* Reads a text and writes its record: number, 32 hex digits and the written text, parted by tabs, and LF; after a refusal the
+ * number and - twice. Returns NoRoom or accepted, as decimal128_write does: a refused text has a record too. */
+uint32_t decimal128_record(const uint8_t *text, size_t len_text, uint8_t *buf, size_t cap, size_t *len);
+
+#ifdef __cplusplus
+}
+#endif
+
+#endif
