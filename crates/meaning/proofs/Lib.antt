@@ -10,3 +10,4 @@ pub mod Lengths
 pub mod Back
 pub mod Bytes
 pub mod Records
+pub mod Refused

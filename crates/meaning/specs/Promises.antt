@@ -5,7 +5,7 @@ use mathlib.Core.Logic.{_⊎_, _↔_}
 use mathlib.Core.Bool.{Bool, true, false}
 use mathlib.Core.List.{List, _++_, map}
 use lib.ListN.{length}
-use Rattle.meaning.specs.Refusals.{Refusal}
+use Rattle.meaning.specs.Refusals.{Refusal, numberOf}
 use Rattle.meaning.specs.Refusals.Refusal.{overflow, inexactRounding}
 use Rattle.meaning.specs.Decimal.{Decimal, InRange}
 use Rattle.meaning.specs.Decimal.Decimal.{nan, infinity, finite}
@@ -51,6 +51,10 @@ AcceptsOnlyTheGrammar =
     (s : List ℕ) (v : Decimal) → readText s ≡ accepted v →
     ((t : FiniteText) × (x : ℕ) × (s ≡ textOf t) × Grammatical t x)
     ⊎ ((g : Sign) × (w : List ℕ) × (s ≡ signText g ++ w) × Word w (negative g) v)
+
+-- whatever the bytes, a refusal is one of 1 to 7
+abbrev pub RefusesBy1To7 : Type 0
+RefusesBy1To7 = (s : List ℕ) (r : Refusal) → readText s ≡ refused r → numberOf r ≤ 7
 
 -- what is accepted is in range of the format
 abbrev pub ReadsInRange : Type 0
