@@ -1,3 +1,5 @@
 pub mod Value
 pub mod Order
 pub mod Powers
+pub mod Count
+pub mod Wide

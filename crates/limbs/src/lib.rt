@@ -1,30 +1,215 @@
-// Numbers below 2^128 as four limbs of 32 bits, least significant first.
+// Numbers below 2^128 as four limbs of 32 bits, by value, lowest limb first: what a `u128` is in the Rust.
 ghost use mathlib.Core.Path.{_≡_};
-ghost use Prim.Native.Nat.{_+_, _*_, _/_, _%_, _^_, _<_};
-ghost use Rattle.limbs.specs.Value.{value};
+ghost use Prim.Native.Nat.{_+_, _-_, _*_, _/_, _%_, _^_, _<_, _≤_};
 ghost use lib.Dec.{ltb};
-ghost use Rattle.limbs.specs.Order.{order, after};
+ghost use Rattle.limbs.specs.Value.{value};
+ghost use Rattle.limbs.specs.Order.{order};
 
+pub mod count;
 pub mod powers;
+pub mod wide;
+
+// A number below 2^64.
+pub fn of_u64(v: u64) -> [u32; 4]
+    ensures { λ r. ⌜ value r ≡ v ⌝ }
+{
+    [(v % 0x1_0000_0000) as u32, (v / 0x1_0000_0000) as u32, 0, 0]
+}
+
+// The lower two limbs.
+pub fn low(a: [u32; 4]) -> u64
+    ensures { λ r. ⌜ r ≡ value a % 2 ^ 64 ⌝ }
+{
+    a[1] as u64 * 0x1_0000_0000 + a[0] as u64
+}
+
+// The lower two limbs are all there is.
+pub fn fits_u64(a: [u32; 4]) -> bool
+    ensures { λ r. ⌜ r ≡ ltb (value a) (2 ^ 64) ⌝ }
+{
+    if a[2] != 0 {
+        return false;
+    }
+    if a[3] != 0 {
+        return false;
+    }
+    true
+}
+
+// ---- order
+
+// a is below b.
+pub fn less(a: [u32; 4], b: [u32; 4]) -> bool
+    ensures { λ r. ⌜ r ≡ ltb (value a) (value b) ⌝ }
+{
+    if a[3] != b[3] {
+        return a[3] < b[3];
+    }
+    if a[2] != b[2] {
+        return a[2] < b[2];
+    }
+    if a[1] != b[1] {
+        return a[1] < b[1];
+    }
+    a[0] < b[0]
+}
+
+pub enum Order {
+    Less,
+    Equal,
+    Greater,
+}
+
+pub fn compare(a: [u32; 4], b: [u32; 4]) -> Order
+    ensures { λ r. ⌜ r ≡ order (value a) (value b) ⌝ }
+{
+    if less(a, b) {
+        return Order::Less;
+    }
+    if less(b, a) {
+        return Order::Greater;
+    }
+    Order::Equal
+}
+
+// ---- sums and products
+
+// One limb of a sum, a product or a difference, and what it hands to the next limb.
+pub struct Limb {
+    pub low: u32,
+    pub carry: u32,
+}
+
+// A number of four limbs, and what is above them.
+pub struct Carried {
+    pub low: [u32; 4],
+    pub carry: u32,
+}
+
+fn add_limb(x: u32, y: u32, carry: u32) -> Limb
+    ensures { λ r. ⌜ r .low + 2 ^ 32 * r .carry ≡ x + y + carry ⌝ }
+{
+    let t = x as u64 + y as u64 + carry as u64;
+    Limb {
+        low: (t % 0x1_0000_0000) as u32,
+        carry: (t / 0x1_0000_0000) as u32,
+    }
+}
+
+// a plus b.
+pub fn add(a: [u32; 4], b: [u32; 4]) -> Carried
+    ensures { λ r. ⌜ value (r .low) + 2 ^ 128 * r .carry ≡ value a + value b ⌝ }
+{
+    let s0 = add_limb(a[0], b[0], 0);
+    let s1 = add_limb(a[1], b[1], s0.carry);
+    let s2 = add_limb(a[2], b[2], s1.carry);
+    let s3 = add_limb(a[3], b[3], s2.carry);
+    Carried {
+        low: [s0.low, s1.low, s2.low, s3.low],
+        carry: s3.carry,
+    }
+}
+
+fn multiply_limb(x: u32, by: u32, carry: u32) -> Limb
+    ensures { λ r. ⌜ r .low + 2 ^ 32 * r .carry ≡ x * by + carry ⌝ }
+{
+    let t = x as u64 * by as u64 + carry as u64;
+    Limb {
+        low: (t % 0x1_0000_0000) as u32,
+        carry: (t / 0x1_0000_0000) as u32,
+    }
+}
+
+// a times by, plus more.
+pub fn multiply(a: [u32; 4], by: u32, more: u32) -> Carried
+    ensures { λ r. ⌜ value (r .low) + 2 ^ 128 * r .carry ≡ value a * by + more ⌝ }
+{
+    let s0 = multiply_limb(a[0], by, more);
+    let s1 = multiply_limb(a[1], by, s0.carry);
+    let s2 = multiply_limb(a[2], by, s1.carry);
+    let s3 = multiply_limb(a[3], by, s2.carry);
+    Carried {
+        low: [s0.low, s1.low, s2.low, s3.low],
+        carry: s3.carry,
+    }
+}
+
+pub fn times_ten_plus(a: [u32; 4], digit: u32) -> [u32; 4]
+    requires { ⌜ value a * 10 + digit < 2 ^ 128 ⌝ }
+    ensures { λ r. ⌜ value r ≡ value a * 10 + digit ⌝ }
+{
+    let m = multiply(a, 10, digit);
+    m.low
+}
+
+// a times by, and above that n, one limb further up.
+fn times_limb(a: [u32; 4], by: u32, n: [u32; 4]) -> [u32; 4]
+    requires { ⌜ value a * by + 2 ^ 32 * value n < 2 ^ 128 ⌝ }
+    ensures { λ r. ⌜ value r ≡ value a * by + 2 ^ 32 * value n ⌝ }
+{
+    let m = multiply(a, by, 0);
+    let p = m.low;
+    let s = add(p, [0, n[0], n[1], n[2]]);
+    s.low
+}
+
+// a times b.
+pub fn times(a: [u32; 4], b: [u32; 4]) -> [u32; 4]
+    requires { ⌜ value a * value b < 2 ^ 128 ⌝ }
+    ensures { λ r. ⌜ value r ≡ value a * value b ⌝ }
+{
+    let p3 = times_limb(a, b[3], [0, 0, 0, 0]);
+    let p2 = times_limb(a, b[2], p3);
+    let p1 = times_limb(a, b[1], p2);
+    times_limb(a, b[0], p1)
+}
+
+// ---- differences
+
+// One limb of a difference; the carry is what the next limb owes it.
+fn subtract_limb(x: u32, y: u32, owed: u32) -> Limb
+    requires { ⌜ owed < 2 ⌝ }
+    ensures { λ r. ⌜ (x + 2 ^ 32 * r .carry ≡ r .low + y + owed) × (r .carry < 2) ⌝ }
+{
+    let t = 0x1_0000_0000 + x as u64 - y as u64 - owed as u64;
+    Limb {
+        low: (t % 0x1_0000_0000) as u32,
+        carry: 1 - (t / 0x1_0000_0000) as u32,
+    }
+}
+
+// a less b.
+pub fn subtract(a: [u32; 4], b: [u32; 4]) -> [u32; 4]
+    requires { ⌜ value b ≤ value a ⌝ }
+    ensures { λ r. ⌜ value r ≡ value a - value b ⌝ }
+{
+    let s0 = subtract_limb(a[0], b[0], 0);
+    let s1 = subtract_limb(a[1], b[1], s0.carry);
+    let s2 = subtract_limb(a[2], b[2], s1.carry);
+    let s3 = subtract_limb(a[3], b[3], s2.carry);
+    [s0.low, s1.low, s2.low, s3.low]
+}
+
+// ---- division
+
+pub struct DividedLimb {
+    pub quotient: u32,
+    pub rest: u32,
+}
 
 pub struct Divided {
     pub quotient: [u32; 4],
     pub rest: u32,
 }
 
-pub struct DivStep {
-    pub quotient: u32,
-    pub rest: u32,
-}
-
 // One limb of a long division: the limb of the quotient, and what is left.
-fn divide_limb(rest: u32, limb: u32, by: u32) -> DivStep
+fn divide_limb(rest: u32, limb: u32, by: u32) -> DividedLimb
     requires { ⌜ rest < by ⌝ }
     ensures { λ r. ⌜ (r .quotient * by + r .rest ≡ rest * 2 ^ 32 + limb) × (r .rest < by) ⌝ }
 {
     let t = rest as u64 * 0x1_0000_0000 + limb as u64;
     let d = by as u64;
-    DivStep {
+    DividedLimb {
         quotient: (t / d) as u32,
         rest: (t % d) as u32,
     }
@@ -44,95 +229,16 @@ pub fn divide(a: [u32; 4], by: u32) -> Divided
     }
 }
 
+// A number below 2^64 is divided at once.
 pub fn divide_by_ten(a: [u32; 4]) -> Divided
-    ensures { λ r. ⌜ (value (r .quotient) ≡ value a / 10) × (r .rest ≡ value a % 10) ⌝ }
+    ensures { λ r. ⌜ (value (r .quotient) ≡ value a / 10) × (r .rest ≡ value a % 10) × (r .rest < 10) ⌝ }
 {
+    if fits_u64(a) {
+        let v = low(a);
+        return Divided {
+            quotient: of_u64(v / 10),
+            rest: (v % 10) as u32,
+        };
+    }
     divide(a, 10)
-}
-
-pub enum Order {
-    Less,
-    Equal,
-    Greater,
-}
-
-// The order of two numbers, from that of what stands above their lowest limbs.
-fn order_limb(high: Order, x: u32, y: u32) -> Order
-    ensures { λ r. ⌜ r ≡ after high x y ⌝ }
-{
-    match high {
-        Order::Equal => {
-            if x < y {
-                Order::Less
-            } else if x == y {
-                Order::Equal
-            } else {
-                Order::Greater
-            }
-        }
-        Order::Less => Order::Less,
-        Order::Greater => Order::Greater,
-    }
-}
-
-pub fn compare(a: [u32; 4], b: [u32; 4]) -> Order
-    ensures { λ r. ⌜ r ≡ order (value a) (value b) ⌝ }
-{
-    let o3 = order_limb(Order::Equal, a[3], b[3]);
-    let o2 = order_limb(o3, a[2], b[2]);
-    let o1 = order_limb(o2, a[1], b[1]);
-    order_limb(o1, a[0], b[0])
-}
-
-pub struct MulStep {
-    pub low: u32,
-    pub carry: u32,
-}
-
-pub struct Multiplied {
-    pub product: [u32; 4],
-    pub carry: u32,
-}
-
-// One limb of a product, with what is carried in and out.
-fn multiply_limb(limb: u32, by: u32, carry: u32) -> MulStep
-    ensures { λ r. ⌜ r .low + 2 ^ 32 * r .carry ≡ limb * by + carry ⌝ }
-{
-    let t = limb as u64 * by as u64 + carry as u64;
-    MulStep {
-        low: (t % 0x1_0000_0000) as u32,
-        carry: (t / 0x1_0000_0000) as u32,
-    }
-}
-
-// a times by, plus add; what is above 128 bits is in carry.
-pub fn multiply(a: [u32; 4], by: u32, add: u32) -> Multiplied
-    ensures { λ r. ⌜ value (r .product) + 2 ^ 128 * r .carry ≡ value a * by + add ⌝ }
-{
-    let s0 = multiply_limb(a[0], by, add);
-    let s1 = multiply_limb(a[1], by, s0.carry);
-    let s2 = multiply_limb(a[2], by, s1.carry);
-    let s3 = multiply_limb(a[3], by, s2.carry);
-    Multiplied {
-        product: [s0.low, s1.low, s2.low, s3.low],
-        carry: s3.carry,
-    }
-}
-
-pub fn times_ten_plus(a: [u32; 4], digit: u32) -> [u32; 4]
-    requires { ⌜ value a * 10 + digit < 2 ^ 128 ⌝ }
-    ensures { λ r. ⌜ value r ≡ value a * 10 + digit ⌝ }
-{
-    let m = multiply(a, 10, digit);
-    m.product
-}
-
-pub fn less(a: [u32; 4], b: [u32; 4]) -> bool
-    ensures { λ r. ⌜ r ≡ ltb (value a) (value b) ⌝ }
-{
-    match compare(a, b) {
-        Order::Less => true,
-        Order::Equal => false,
-        Order::Greater => false,
-    }
 }

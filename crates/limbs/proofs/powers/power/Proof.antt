@@ -1,5 +1,4 @@
 -- `powers::power` meets its contract: the row is one of the table, whose rule is proved once.
--- Assumes nothing.
 use borrow.Author.Needs.{needs}
 use Rattle.limbs.specs.Powers.{table}
 use Rattle.limbs.proofs.Rows.{power-of}

@@ -1,0 +1,3 @@
+pub mod Laws
+pub mod Frames
+pub mod Answers

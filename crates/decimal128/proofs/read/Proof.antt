@@ -1,0 +1,17 @@
+use Rattle.decimal128.proofs.Answers.{answer-refused, answer-accepted}
+use borrow.Author.Needs.{needs}
+use Rattle.decimal128.proofs.read.Statement.{statement}
+use Rattle.decimal128.proofs.read.Tie as tie
+
+returns : tie.Need-returns
+returns c =
+    let r = c .before .read in
+    answer-refused _ (r .result) (r .ensures .tells) (c .if1 .taken)
+
+returns-2 : tie.Need-returns-2
+returns-2 c =
+    let r = c .before .before .before .read in
+    answer-accepted _ (r .result) (r .ensures .tells) (c .before .before .if1 .left) (c .pack .ensures)
+
+pub read-spec : {M : Type 1} → statement M
+read-spec = tie.close (tie.spec (λ c κs. search needs) returns (λ c κs. search needs) returns-2)

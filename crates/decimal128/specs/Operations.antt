@@ -1,0 +1,79 @@
+-- What each public operation allows for an input: its result, and what stands in the lent buffer afterwards.
+use Prim.Native.Nat.{ℕ}
+use mathlib.Core.Path.{_≡_}
+use mathlib.Core.Bool.{cond}
+use mathlib.Core.List.{List}
+use lib.Dec.{eqb}
+use lib.ListN.{length, replicate}
+use Rattle.meaning.specs.Refusals.{numberOf}
+use Rattle.meaning.specs.Refusals.Refusal.{malformedBytes, noRoom}
+use Rattle.meaning.specs.Layout.{stored, decode}
+use Rattle.meaning.specs.Reading.{Reading, readText}
+use Rattle.meaning.specs.Writing.{writeText, debugText}
+use Rattle.meaning.specs.Answers.{numberGiven, bytesGiven}
+use Rattle.meaning.specs.Stream.{recordText}
+use Rattle.writing.specs.declared.Put.{Put}
+use Rattle.writing.specs.declared.Put.the-variants.{Done, NoRoom}
+use Rattle.writing.specs.Put.{putOf, placed, Puts}
+use Rattle.decimal128.specs.declared.Answer.{Answer}
+use Rattle.decimal128.specs.declared.Decimal128.{Decimal128}
+
+-- ---- making, and taking apart
+
+abbrev pub FromBytesAllows : List ℕ → Decimal128 → Type 0
+FromBytesAllows bytes r = r ≡ record { bytes = bytes }
+
+abbrev pub BytesAllows : Decimal128 → List ℕ → Type 0
+BytesAllows v r = r ≡ v .bytes
+
+-- 16 bytes as they are; MalformedBytes for any other length
+abbrev pub parsed : List ℕ → Answer
+parsed s =
+    cond (eqb (length s) 16) (record { number = 0; bytes = s }) (record { number = numberOf malformedBytes; bytes = replicate 16 0 })
+
+abbrev pub ParseAllows : List ℕ → Answer → Type 0
+ParseAllows s r = r ≡ parsed s
+
+-- ---- reading
+
+abbrev pub answered : Reading → Answer
+answered r = record { number = numberGiven r; bytes = bytesGiven r }
+
+abbrev pub ReadAllows : List ℕ → Answer → Type 0
+ReadAllows text r = r ≡ answered (readText text)
+
+-- ---- writing: `Puts text before r after` says that text is put into the buffer whole, or NoRoom and not at all
+
+abbrev pub WriteAllows : List ℕ → List ℕ → Put → List ℕ → Type 0
+WriteAllows bytes before r after = Puts (writeText (decode (stored bytes))) before r after
+
+abbrev pub DebugAllows : List ℕ → List ℕ → Put → List ℕ → Type 0
+DebugAllows bytes before r after = Puts (debugText bytes) before r after
+
+abbrev pub RecordAllows : List ℕ → List ℕ → Put → List ℕ → Type 0
+RecordAllows text before r after = Puts (recordText (readText text)) before r after
+
+-- ---- the paper's number and length of each case of `Put`
+
+abbrev pub putNumber : Put → ℕ
+putNumber (Done n) = 0
+putNumber NoRoom = numberOf noRoom
+
+abbrev pub putLength : Put → ℕ
+putLength (Done n) = n
+putLength NoRoom = 0
+
+-- ---- for C: the number is returned, the bytes and the length go through pointers
+
+pub record ReadGives (text : List ℕ) (number : ℕ) (out : List ℕ) : Type 0 where
+  pub is : number ≡ numberGiven (readText text)
+  pub bytes : out ≡ bytesGiven (readText text)
+
+pub record ParseGives (s : List ℕ) (number : ℕ) (out : List ℕ) : Type 0 where
+  pub is : number ≡ parsed s .number
+  pub bytes : out ≡ parsed s .bytes
+
+pub record PutGives (text before : List ℕ) (number len : ℕ) (after : List ℕ) : Type 0 where
+  pub is : number ≡ putNumber (putOf text before)
+  pub length : len ≡ putLength (putOf text before)
+  pub buffer : after ≡ placed text before

@@ -1,0 +1,113 @@
+// Decimal128: decimal text to 16 stored bytes and back. The public operations and nothing else; none asks anything of its
+// caller.
+use writing::Put;
+ghost use Rattle.decimal128.specs.Operations.{FromBytesAllows, BytesAllows, ParseAllows, ReadAllows, WriteAllows, DebugAllows, RecordAllows};
+
+pub mod c;
+mod framing;
+
+// Sixteen stored bytes, lowest first.
+pub struct Decimal128 {
+    pub bytes: [u8; 16],
+}
+
+// The number of a refusal and 16 zero bytes, or 0 and the bytes of the value.
+pub struct Answer {
+    pub number: u32,
+    pub bytes: [u8; 16],
+}
+
+impl Decimal128 {
+    pub fn from_bytes(bytes: [u8; 16]) -> Self
+        ensures { λ r. ⌜ FromBytesAllows bytes r ⌝ }
+    {
+        Self { bytes: bytes }
+    }
+
+    pub fn bytes(self) -> [u8; 16]
+        ensures { λ r. ⌜ BytesAllows self r ⌝ }
+    {
+        self.bytes
+    }
+
+    // The text of the value.
+    pub fn write(self, buf: &mut [u8]) -> Put
+        ensures { λ r. ⌜ WriteAllows (self .bytes) (now (buf .entry)) r (now (buf .exit)) ⌝ }
+    {
+        let bytes = self.bytes;
+        writing::write(layout::unpack(bytes), buf)
+    }
+
+    // `Decimal128(`, 32 hex digits, `)`.
+    pub fn debug(self, buf: &mut [u8]) -> Put
+        ensures { λ r. ⌜ DebugAllows (self .bytes) (now (buf .entry)) r (now (buf .exit)) ⌝ }
+    {
+        let bytes = self.bytes;
+        writing::debug(bytes, buf)
+    }
+}
+
+// Text to 16 bytes.
+pub fn read(text: &[u8]) -> Answer
+    ensures { λ r. ⌜ ReadAllows (now (text .entry)) r ⌝ }
+{
+    let r = reading::read(text);
+    let number = r.number;
+    if number != 0 {
+        return Answer {
+            number: number,
+            bytes: [0u8; 16],
+        };
+    }
+    let value = r.value;
+    Answer {
+        number: 0,
+        bytes: layout::pack(value),
+    }
+}
+
+// The record of a text: number, 32 hex digits and the written text, parted by tabs, and LF; `-` twice after a refusal.
+pub fn record(text: &[u8], buf: &mut [u8]) -> Put
+    ensures { λ r. ⌜ RecordAllows (now (text .entry)) (now (buf .entry)) r (now (buf .exit)) ⌝ }
+{
+    let r = reading::read(text);
+    let number = r.number;
+    if number != 0 {
+        return framing::refused(number, buf);
+    }
+    let value = r.value;
+    framing::accepted(value, buf)
+}
+
+// Sixteen bytes as they are; 8, MalformedBytes, for any other length.
+pub fn parse(bytes: &[u8]) -> Answer
+    ensures { λ r. ⌜ ParseAllows (now (bytes .entry)) r ⌝ }
+{
+    if bytes.len() != 16 {
+        return Answer {
+            number: 8,
+            bytes: [0u8; 16],
+        };
+    }
+    Answer {
+        number: 0,
+        bytes: [
+            bytes[0],
+            bytes[1],
+            bytes[2],
+            bytes[3],
+            bytes[4],
+            bytes[5],
+            bytes[6],
+            bytes[7],
+            bytes[8],
+            bytes[9],
+            bytes[10],
+            bytes[11],
+            bytes[12],
+            bytes[13],
+            bytes[14],
+            bytes[15],
+        ],
+    }
+}

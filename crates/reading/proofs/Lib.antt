@@ -1,0 +1,10 @@
+pub mod Pass
+pub mod Walk
+pub mod Letters
+pub mod Split
+pub mod Names
+pub mod Steps
+pub mod Points
+pub mod Cut
+pub mod Lower
+pub mod Shifts

@@ -1,0 +1,215 @@
+-- One step of the pass over the decimal part, its start and its end.
+use mathlib.Core.Path.{_≡_, refl, sym, ap, _∙_}
+use mathlib.Core.Logic.{_⊎_, inl, inr, ⊎-elim}
+use mathlib.Core.Bool.{Bool, true, false, cond, _&&_, _||_}
+use mathlib.Core.List.{List, [], _∷_, _++_}
+use Prim.Native.Nat.{ℕ, zero, suc, _+_, _-_, _*_, _^_, _≤_, _<_, min}
+use native.Mathlib.Nat.{pow-suc, sub-self, pow-zero, lt-of-lt-of-le}
+use native.Mathlib.Numerals.{add-one}
+use native.Mathlib.Omega.{arith}
+use lib.Dec.{eqb, leb}
+use lib.ListN.{length, getD, take, drop, drop-of-length-le}
+use lib.Seq.{slice, slice-empty, drop-cons, take-suc, drop-append-le, length-take-le}
+use borrow.Author.Tests.{eq-eqb, ne-eqb, le-leb, lt-leb}
+use Rattle.meaning.specs.Reading.{isDigit, number}
+use Rattle.meaning.proofs.Numbers.{le-or, byte-digit, number-append, pow-le}
+use Rattle.reading.specs.declared.scan.Found.{Found}
+use Rattle.reading.specs.declared.scan.Spans.{Spans}
+use Rattle.reading.specs.Scan.{isPlain, decimals, firstAt, secondAt, points, unpointed, withDigit, withPoint, Passing, Added, Stopped, Scanned}
+
+-- ---- a list at an offset
+
+pub drop-step : (s : List ℕ) (i : ℕ) → i < length s → drop i s ≡ getD s i 0 ∷ drop (i + 1) s
+drop-step s i h = rw (add-one, drop-cons s i 0)
+
+pub slice-more : (s : List ℕ) (f t : ℕ) → f ≤ t → t < length s → slice f (t + 1) s ≡ slice f t s ++ (getD s t 0 ∷ [])
+slice-more s f t h l =
+    let q : f ≤ length (take t s) = omega (arith, length-take-le t s (omega arith)) in rw (add-one, take-suc s t 0, drop-append-le f)
+
+-- ---- bytes
+
+pub digit-plain : (b : ℕ) → isDigit b ≡ true → isPlain b ≡ true
+digit-plain b e = simp e
+
+pub digit-no-point : (b : ℕ) → isDigit b ≡ true → b ≡ 46 → ⊥
+digit-no-point b e q = let d = byte-digit b e in omega arith
+
+pub point-plain : (b : ℕ) → b ≡ 46 → isPlain b ≡ true
+point-plain b e = rw e
+
+pub neither : (b : ℕ) → isDigit b ≡ false → (b ≡ 46 → ⊥) → isPlain b ≡ false
+neither b d q = simp (d, ne-eqb b 46 q)
+
+-- ---- the decimal part
+
+pub decimals-plain : (s : List ℕ) (i : ℕ) → i < length s → isPlain (getD s i 0) ≡ true → decimals (drop i s) ≡ getD s i 0 ∷ decimals (drop (i + 1) s)
+unfolding decimals
+decimals-plain s i h e = rw (drop-step s i h) (simp e)
+
+pub decimals-stop : (s : List ℕ) (i : ℕ) → Stopped s i → decimals (drop i s) ≡ []
+unfolding decimals
+decimals-stop s i (inl l) = rw (drop-of-length-le s l)
+decimals-stop s i (inr e) =
+    ⊎-elim (λ l. rw (drop-of-length-le s l)) (λ h. rw (drop-step s i h) (simp e)) (le-or (length s) i)
+
+-- ---- where the points are, a byte at a time
+
+module _ (b n i x : ℕ) (s : List ℕ) where
+  pub first-here : x ≡ b → firstAt b n i (x ∷ s) ≡ i
+  unfolding firstAt
+  first-here e = simp (eq-eqb x b e)
+
+  pub first-later : (x ≡ b → ⊥) → firstAt b n i (x ∷ s) ≡ firstAt b n (i + 1) s
+  unfolding firstAt
+  first-later e = simp (ne-eqb x b e)
+
+module _ (n i x : ℕ) (s : List ℕ) where
+  pub second-next : x ≡ 46 → secondAt n i (x ∷ s) ≡ firstAt 46 n (i + 1) s
+  unfolding secondAt
+  second-next e = simp (eq-eqb x 46 e)
+
+  pub second-later : (x ≡ 46 → ⊥) → secondAt n i (x ∷ s) ≡ secondAt n (i + 1) s
+  unfolding secondAt
+  second-later e = simp (ne-eqb x 46 e)
+
+module _ (x : ℕ) (s : List ℕ) where
+  pub points-more : x ≡ 46 → points (x ∷ s) ≡ 1 + points s
+  unfolding points
+  points-more e = simp (eq-eqb x 46 e)
+
+  pub points-same : (x ≡ 46 → ⊥) → points (x ∷ s) ≡ points s
+  unfolding points
+  points-same e = simp (ne-eqb x 46 e)
+
+  pub unpointed-less : x ≡ 46 → unpointed (x ∷ s) ≡ unpointed s
+  unfolding unpointed
+  unpointed-less e = simp (eq-eqb x 46 e)
+
+  pub unpointed-more : (x ≡ 46 → ⊥) → unpointed (x ∷ s) ≡ x ∷ unpointed s
+  unfolding unpointed
+  unpointed-more e = simp (ne-eqb x 46 e)
+
+-- ---- the pass
+
+abbrev pub fresh : ℕ → Found
+fresh n = record { point = n; second = n; points = 0; value = 0 }
+
+pub passing-none : (s : List ℕ) (start : ℕ) → start ≤ length s → Passing s start start (fresh (length s))
+passing-none s start h =
+    record { after = omega arith; within = h; few = omega arith; stop = refl; points = omega arith; point = refl; second = refl }
+
+-- the second point, after the first one or a later one
+second-after : (k i r : ℕ) (l : List ℕ) → cond (eqb (k + 1) 0) (secondAt (cond (eqb k 1) i r) (i + 1) l) (cond (eqb (k + 1) 1) (firstAt 46 (cond (eqb k 1) i r) (i + 1) l) (cond (eqb k 1) i r)) ≡ cond (eqb k 0) (firstAt 46 r (i + 1) l) (cond (eqb k 1) i r)
+second-after zero i r l = refl
+second-after (suc k) i r l =
+    simp (ne-eqb (suc k) 0 (λ z. omega arith), ne-eqb (suc k + 1) 0 (λ z. omega arith), ne-eqb (suc k + 1) 1 (λ z. omega arith))
+
+module _ (s : List ℕ) (start i : ℕ) (m : Found) (p : Passing s start i m) (h : i < length s) where
+  pub passing-digit : (v : ℕ) → isDigit (getD s i 0) ≡ true → Passing s start (i + 1) (record { point = m .point; second = m .second; points = m .points; value = v })
+  passing-digit v d =
+      let b = getD s i 0 in
+      let l = decimals (drop (i + 1) s) in
+      let e = decimals-plain s i h (digit-plain b d) in
+      let n = digit-no-point b d in
+      record {
+        after = omega (arith, p .after);
+        within = omega arith;
+        few = omega (arith, p .few);
+        stop = omega (arith, rw e at (p .stop));
+        points = rw (e, points-same b l n) at (p .points);
+        point = rw (e, first-later 46 (m .point) i b l n) at (p .point);
+        second = rw (e, second-later (m .second) i b l n, first-later 46 (m .second) i b l n) at (p .second);
+      }
+
+  pub passing-point : getD s i 0 ≡ 46 → Passing s start (i + 1) (withPoint m i)
+  passing-point d =
+      let b = getD s i 0 in
+      let l = decimals (drop (i + 1) s) in
+      let e = decimals-plain s i h (point-plain b d) in
+      record {
+        after = omega (arith, p .after);
+        within = omega arith;
+        few = omega (arith, p .few, p .after);
+        stop = omega (arith, rw e at (p .stop));
+        points = omega (arith, rw (e, points-more b l d) at (p .points));
+        point = rw (ne-eqb (m .points + 1) 0 (λ z. omega arith)) (rw (e, first-here 46 (m .point) i b l d) at (p .point));
+        second = second-after (m .points) i (m .second) l ∙ (rw (e, second-next (m .second) i b l d, first-here 46 (m .second) i b l d) at (p .second));
+      }
+
+cond-same : {A : Type 0} (t : Bool) (a : A) → cond t a a ≡ a
+cond-same true a = refl
+cond-same false a = refl
+
+-- what a pass has found where it ends
+pub record Ended (s : List ℕ) (start i : ℕ) (m : Found) : Type 0 where
+  pub stop : i ≡ start + length (decimals (drop start s))
+  pub points : m .points ≡ points (decimals (drop start s))
+  pub point : m .point ≡ firstAt 46 (length s) start (decimals (drop start s))
+  pub second : m .second ≡ secondAt (length s) start (decimals (drop start s))
+
+pub passing-end : (s : List ℕ) (start i : ℕ) (m : Found) → Passing s start i m → Stopped s i → Ended s start i m
+unfolding firstAt secondAt points
+passing-end s start i m p t =
+    let e = decimals-stop s i t in
+    record {
+      stop = omega (arith, rw e at (p .stop));
+      points = omega (arith, rw e at (p .points));
+      point = sym (cond-same (eqb (m .points) 0) (m .point)) ∙ (rw e at (p .point));
+      second =
+          sym (ap (λ (k : ℕ). cond (eqb (m .points) 0) (m .second) k) (cond-same (eqb (m .points) 1) (m .second))
+          ∙ cond-same (eqb (m .points) 0) (m .second))
+          ∙ (rw e at (p .second));
+    }
+
+-- ---- the value of the first bytes
+
+pub unpointed-append : (a b : List ℕ) → unpointed (a ++ b) ≡ unpointed a ++ unpointed b
+unfolding unpointed
+unpointed-append [] b = refl
+unpointed-append (x ∷ a) b = go (eqb x 46) (unpointed-append a b)
+  where
+    go : (t : Bool) → unpointed (a ++ b) ≡ unpointed a ++ unpointed b → cond t (unpointed (a ++ b)) (x ∷ unpointed (a ++ b)) ≡ cond t (unpointed a) (x ∷ unpointed a) ++ unpointed b
+    go true e = e
+    go false e = ap (λ (l : List ℕ). x ∷ l) e
+
+pub more-digits : (v b n k : ℕ) → v < 10 ^ n → b ≤ 57 → k ≡ suc n → v * 10 + (b - 48) < 10 ^ k
+more-digits v b n k h l e = rw e (omega (arith, pow-suc 10 n))
+
+pub added-none : (s : List ℕ) (start : ℕ) → Added s start start (fresh (length s))
+unfolding unpointed number
+added-none s start = record { value = rw (slice-empty start s); small = rw (sub-self, pow-zero) (omega arith) }
+
+module _ (s : List ℕ) (start i : ℕ) (m : Found) (a : Added s start i m) (l : start ≤ i) (h : i < length s) where
+  pub added-digit : isDigit (getD s i 0) ≡ true → Added s start (i + 1) (withDigit m (getD s i 0))
+  unfolding unpointed number
+  added-digit d =
+      let b = getD s i 0 in
+      record {
+        value = rw (slice-more s start i l h, unpointed-append, number-append, ← a .value, unpointed-more b [] (digit-no-point b d));
+        small = more-digits (m .value) b (i - start) (i + 1 - start) (a .small) (byte-digit b d .1) (omega arith);
+      }
+
+  pub added-point : getD s i 0 ≡ 46 → Added s start (i + 1) (withPoint m i)
+  unfolding unpointed number
+  added-point d =
+      let b = getD s i 0 in
+      record {
+        value = rw (slice-more s start i l h, unpointed-append, number-append, ← a .value, unpointed-less b [] d);
+        small = lt-of-lt-of-le (a .small) (pow-le (omega arith));
+      }
+
+-- ---- the pass as a whole: it ends within the first 19 bytes, or after them
+
+module _ (s : List ℕ) (start : ℕ) (d : Spans) (p : Passing s start (d .stop) (d .found)) (t : Stopped s (d .stop)) where
+  scanned-with : d .found .value ≡ number 0 (unpointed (slice start (min (d .stop) (start + 19)) s)) → Scanned s start d
+  scanned-with v =
+      let e = passing-end s start (d .stop) (d .found) p t in
+      record { stop = e .stop; points = e .points; point = e .point; second = e .second; value = v; ended = t }
+
+  pub scanned-short : Added s start (d .stop) (d .found) → d .stop ≤ start + 19 → Scanned s start d
+  scanned-short a h =
+      let e : min (d .stop) (start + 19) ≡ d .stop = omega arith in scanned-with (rw e (a .value))
+
+  pub scanned-long : (m : Found) → Added s start (start + 19) m → start + 19 ≤ d .stop → d .found .value ≡ m .value → Scanned s start d
+  scanned-long m a h v =
+      let e : min (d .stop) (start + 19) ≡ start + 19 = omega arith in scanned-with (rw e (v ∙ a .value))

@@ -1,0 +1,240 @@
+-- Laws of `run`: a byte more, its parts, its length, its zeros.
+use mathlib.Core.Path.{_≡_, refl, sym, ap, _∙_}
+use mathlib.Core.Logic.{_⊎_, inl, inr, ⊎-elim}
+use mathlib.Core.Bool.{Bool, true, false, cond, _&&_, _||_}
+use mathlib.Core.List.{List, [], _∷_, _++_}
+use Prim.Native.Nat.{ℕ, zero, suc, _+_, _-_, _*_, _^_, _≤_, _<_, min, max}
+use native.Mathlib.Nat.{add-zero, lt-of-lt-of-le}
+use native.Mathlib.Numerals.{add-one}
+use native.Mathlib.Omega.{arith}
+use lib.Dec.{eqb, leb, ltb, lit≤}
+use lib.ListN.{length, getD, take, drop, length-append, take-append-drop}
+use lib.Seq.{slice, slice-empty, slice-cons, take-at, drop-at, length-slice, take-take, drop-append-le, length-take-le}
+use borrow.Author.Tests.{eq-eqb, ne-eqb, le-leb, lt-leb, lt-ltb, le-ltb, eqb-true, eqb-false}
+use Rattle.meaning.specs.Reading.{isDigit, number, allDigits, stripZeros, allZeros}
+use Rattle.meaning.proofs.Numbers.{le-or, both, byte-digit, pow-le}
+use Rattle.reading.proofs.Pass.{more-digits}
+use Rattle.reading.specs.Run.{without, run, counted, Offset, ZerosTo}
+
+pub eq-or : (m n : ℕ) → (m ≡ n) ⊎ (m ≡ n → ⊥)
+eq-or m n = go (eqb m n) refl
+  where
+    go : (t : Bool) → eqb m n ≡ t → (m ≡ n) ⊎ (m ≡ n → ⊥)
+    go true e = inl (eqb-true m n e)
+    go false e = inr (eqb-false m n e)
+
+pub slice-step : (f t : ℕ) (s : List ℕ) → f < t → t ≤ length s → slice f t s ≡ getD s f 0 ∷ slice (f + 1) t s
+slice-step f t s h k = rw (add-one, slice-cons f t s 0 h k)
+
+pub slice-parts : (f m t : ℕ) (s : List ℕ) → f ≤ m → m ≤ t → t ≤ length s → slice f t s ≡ slice f m s ++ slice m t s
+slice-parts f m t s h k l =
+    let e : take t s ≡ take m s ++ slice m t s = sym (take-append-drop m (take t s)) ∙ rw take-take in
+    let q : f ≤ length (take m s) = omega (arith, length-take-le m s (omega arith)) in
+    ap (drop f) e ∙ rw drop-append-le
+
+without-append : (p i : ℕ) (a b : List ℕ) → without p i (a ++ b) ≡ without p i a ++ without p (i + length a) b
+unfolding without
+without-append p i [] b = rw add-zero
+without-append p i (x ∷ a) b =
+    let n : i + suc (length a) ≡ i + 1 + length a = omega arith in
+    rw n (go (eqb i p) (without-append p (i + 1) a b))
+  where
+    go : (t : Bool) → without p (i + 1) (a ++ b) ≡ without p (i + 1) a ++ without p (i + 1 + length a) b → cond t (without p (i + 1) (a ++ b)) (x ∷ without p (i + 1) (a ++ b)) ≡ cond t (without p (i + 1) a) (x ∷ without p (i + 1) a) ++ without p (i + 1 + length a) b
+    go true e = e
+    go false e = ap (λ (l : List ℕ). x ∷ l) e
+
+-- ---- a byte more
+
+module _ (p i t : ℕ) (s : List ℕ) (h : i < t) (l : t ≤ length s) where
+  pub run-skip : i ≡ p → run p i t s ≡ run p (i + 1) t s
+  unfolding run without
+  run-skip e = rw (slice-step i t s h l) (simp (eq-eqb i p e))
+
+  pub run-take : (i ≡ p → ⊥) → run p i t s ≡ getD s i 0 ∷ run p (i + 1) t s
+  unfolding run without
+  run-take e = rw (slice-step i t s h l) (simp (ne-eqb i p e))
+
+pub run-empty : (p t : ℕ) (s : List ℕ) → run p t t s ≡ []
+unfolding run without
+run-empty p t s = rw (slice-empty t s)
+
+-- ---- its parts
+
+pub run-parts : (p i m t : ℕ) (s : List ℕ) → i ≤ m → m ≤ t → t ≤ length s → run p i t s ≡ run p i m s ++ run p m t s
+unfolding run
+run-parts p i m t s h k l =
+    let e : i + length (slice i m s) ≡ m = omega (arith, length-slice i m s (omega arith)) in
+    rw (slice-parts i m t s h k l, without-append) (rw e)
+
+-- ---- its length
+
+counted-apart : (p i t : ℕ) → (p < i) ⊎ (t ≤ p) → counted p i t ≡ t - i
+counted-apart p i t (inl h) = omega arith
+counted-apart p i t (inr h) = omega arith
+
+counted-across : (p i t : ℕ) → i ≤ p → p < t → counted p i t ≡ t - i - 1
+counted-across p i t h k = omega arith
+
+counted-skip : (p i n : ℕ) → i ≡ p → counted p (i + 1) (i + 1 + n) ≡ counted p i (i + suc n)
+counted-skip p i n e =
+    rw (counted-apart p (i + 1) (i + 1 + n) (inl (omega arith)), counted-across p i (i + suc n) (omega arith) (omega arith)) (omega arith)
+
+counted-more : (p i n : ℕ) → (i ≡ p → ⊥) → suc (counted p (i + 1) (i + 1 + n)) ≡ counted p i (i + suc n)
+counted-more p i n e =
+    ⊎-elim
+    (λ h. rw (counted-apart p (i + 1) (i + 1 + n) (inl (omega arith)), counted-apart p i (i + suc n) (inl (omega (arith, e)))) (omega arith))
+    (λ h.
+    ⊎-elim
+    (λ k. rw (counted-apart p (i + 1) (i + 1 + n) (inr (omega arith)), counted-apart p i (i + suc n) (inr k)) (omega arith))
+    (λ k. rw (counted-across p (i + 1) (i + 1 + n) (omega arith) (omega arith), counted-across p i (i + suc n) (omega arith) k) (omega arith))
+    (le-or (i + suc n) p))
+    (le-or p i)
+
+length-without : (p i : ℕ) (s : List ℕ) → length (without p i s) ≡ counted p i (i + length s)
+unfolding without
+length-without p i [] = omega arith
+length-without p i (x ∷ s) = go (eqb i p) refl (length-without p (i + 1) s)
+  where
+    go : (t : Bool) → eqb i p ≡ t → length (without p (i + 1) s) ≡ counted p (i + 1) (i + 1 + length s) → length (cond t (without p (i + 1) s) (x ∷ without p (i + 1) s)) ≡ counted p i (i + suc (length s))
+    go true e l = l ∙ counted-skip p i (length s) (eqb-true i p e)
+    go false e l = ap suc l ∙ counted-more p i (length s) (eqb-false i p e)
+
+pub length-run : (p i t : ℕ) (s : List ℕ) → i ≤ t → t ≤ length s → length (run p i t s) ≡ counted p i t
+unfolding run
+length-run p i t s h l =
+    let e : i + length (slice i t s) ≡ t = omega (arith, length-slice i t s l) in length-without p i (slice i t s) ∙ rw e
+
+-- ---- its first n bytes and the others
+
+module _ (p i n r t : ℕ) (s : List ℕ) (o : Offset p i n r) (h : i ≤ t) (l : t ≤ length s) (m : n ≤ length (run p i t s)) where
+  pub run-within : r ≤ t
+  run-within = o .first t h (omega (arith, length-run p i t s h l))
+
+  first-length : length (run p i r s) ≡ n
+  first-length = length-run p i r s (o .after) (omega (arith, run-within)) ∙ o .count
+
+  pub run-first : take n (run p i t s) ≡ run p i r s
+  run-first = ap (take n) (run-parts p i r t s (o .after) run-within l) ∙ take-at (run p i r s) (run p r t s) n first-length
+
+  pub run-rest : drop n (run p i t s) ≡ run p r t s
+  run-rest = ap (drop n) (run-parts p i r t s (o .after) run-within l) ∙ drop-at (run p i r s) (run p r t s) n first-length
+
+-- ---- its zeros
+
+-- the bytes passed are zeros
+pub record ZerosAt (p i t : ℕ) (s : List ℕ) (k : ℕ) : Type 0 where
+  pub after : i ≤ k
+  pub within : k ≤ t
+  pub strip : stripZeros (run p i t s) ≡ stripZeros (run p k t s)
+  pub zeros : allZeros (run p i t s) ≡ allZeros (run p k t s)
+
+pub zeros-none : (p i t : ℕ) (s : List ℕ) → i ≤ t → ZerosAt p i t s i
+zeros-none p i t s h = record { after = omega arith; within = h; strip = refl; zeros = refl }
+
+module _ (p i t k : ℕ) (s : List ℕ) (z : ZerosAt p i t s k) (h : k < t) (l : t ≤ length s) where
+  pub zeros-point : k ≡ p → ZerosAt p i t s (k + 1)
+  zeros-point e =
+      let q = run-skip p k t s h l e in
+      record { after = omega (arith, z .after); within = omega arith; strip = z .strip ∙ ap stripZeros q; zeros = z .zeros ∙ ap allZeros q }
+
+  zeros-taken : getD s k 0 ≡ 48 → (k ≡ p → ⊥) → ZerosAt p i t s (k + 1)
+  unfolding stripZeros allZeros
+  zeros-taken e n =
+      let q = run-take p k t s h l n in
+      record {
+        after = omega (arith, z .after);
+        within = omega arith;
+        strip = z .strip ∙ ap stripZeros q ∙ simp (eq-eqb _ _ e);
+        zeros = z .zeros ∙ ap allZeros q ∙ simp (eq-eqb _ _ e);
+      }
+
+  pub zeros-zero : getD s k 0 ≡ 48 → ZerosAt p i t s (k + 1)
+  zeros-zero e = ⊎-elim zeros-point (zeros-taken e) (eq-or k p)
+
+  pub zeros-other : (getD s k 0 ≡ 48 → ⊥) → (k ≡ p → ⊥) → ZerosTo p i t s k
+  unfolding stripZeros allZeros
+  zeros-other e n =
+      let q = run-take p k t s h l n in
+      record {
+        after = z .after;
+        within = z .within;
+        strip = z .strip ∙ ap stripZeros q ∙ rw (ne-eqb _ _ e) (sym q);
+        zeros = z .zeros ∙ ap allZeros q ∙ rw (ne-eqb _ _ e, ne-eqb k t (λ w. omega arith));
+      }
+
+pub zeros-all : (p i t k : ℕ) (s : List ℕ) → ZerosAt p i t s k → t ≤ k → ZerosTo p i t s k
+unfolding stripZeros allZeros
+zeros-all p i t k s z h =
+    let e : k ≡ t = omega (arith, z .within) in
+    let q : run p k t s ≡ [] = rw e (run-empty p t s) in
+    record {
+      after = z .after;
+      within = z .within;
+      strip = z .strip ∙ rw q;
+      zeros = z .zeros ∙ rw (q, eq-eqb k t e);
+    }
+
+module _ (p i t r : ℕ) (s : List ℕ) (z : ZerosTo p i t s r) where
+  pub zeros-not : r < t → allZeros (run p i t s) ≡ false
+  zeros-not h = z .zeros ∙ ne-eqb r t (λ e. omega arith)
+
+  pub zeros-only : t ≤ r → allZeros (run p i t s) ≡ true
+  zeros-only h = z .zeros ∙ eq-eqb r t (omega (arith, z .within))
+
+-- ---- its number
+
+-- the number v of the bytes up to k; those after it are digits, and few enough
+pub record NumberAt (p i t : ℕ) (s : List ℕ) (n k v : ℕ) : Type 0 where
+  pub after : i ≤ k
+  pub within : k ≤ t
+  pub digits : allDigits (run p k t s) ≡ true
+  pub few : length (run p k t s) ≤ 34
+  pub small : v < 10 ^ (34 - length (run p k t s))
+  pub same : number v (run p k t s) ≡ number n (run p i t s)
+
+module _ (p i t k v n : ℕ) (s : List ℕ) (a : NumberAt p i t s n k v) (h : k < t) (l : t ≤ length s) where
+  pub number-point : k ≡ p → NumberAt p i t s n (k + 1) v
+  number-point e =
+      let q = run-skip p k t s h l e in
+      record {
+        after = omega (arith, a .after);
+        within = omega arith;
+        digits = rw q at (a .digits);
+        few = rw q at (a .few);
+        small = rw q at (a .small);
+        same = rw q at (a .same);
+      }
+
+  module _ (e : k ≡ p → ⊥) where
+    run-cons : run p k t s ≡ getD s k 0 ∷ run p (k + 1) t s
+    run-cons = run-take p k t s h l e
+
+    pub number-byte : (48 ≤ getD s k 0) × (getD s k 0 ≤ 57)
+    unfolding allDigits
+    number-byte = byte-digit _ (both (isDigit (getD s k 0)) _ (rw run-cons at (a .digits)) .0)
+
+    small-next : v * 10 + (getD s k 0 - 48) < 10 ^ (34 - length (run p (k + 1) t s))
+    small-next =
+        let f = rw run-cons at (a .few) in
+        more-digits v (getD s k 0) _ _ (rw run-cons at (a .small)) (number-byte .1) (omega arith)
+
+    pub number-fits : v * 10 + (getD s k 0 - 48) < 2 ^ 128
+    number-fits = lt-of-lt-of-le (lt-of-lt-of-le small-next (pow-le {j = 34} (omega arith))) (lit≤ tt)
+
+    pub number-digit : NumberAt p i t s n (k + 1) (v * 10 + (getD s k 0 - 48))
+    unfolding allDigits number
+    number-digit =
+        record {
+          after = omega (arith, a .after);
+          within = omega arith;
+          digits = both (isDigit (getD s k 0)) _ (rw run-cons at (a .digits)) .1;
+          few = (let f = rw run-cons at (a .few) in omega arith);
+          small = small-next;
+          same = rw run-cons at (a .same);
+        }
+
+pub number-end : (p i t k v n : ℕ) (s : List ℕ) → NumberAt p i t s n k v → t ≤ k → v ≡ number n (run p i t s)
+unfolding number
+number-end p i t k v n s a h =
+    let e : k ≡ t = omega (arith, a .within) in
+    let q : run p k t s ≡ [] = rw e (run-empty p t s) in rw q at (a .same)

@@ -1,0 +1,4 @@
+pub mod Scan
+pub mod Run
+pub mod Told
+pub mod Split

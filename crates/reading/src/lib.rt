@@ -1,0 +1,89 @@
+// Text to value: document 01, 'Reading text', steps 1 to 11.
+ghost use mathlib.Core.Path.{_≡_};
+ghost use mathlib.Core.List.{map};
+ghost use Prim.Native.Nat.{_+_, _-_, _≤_};
+ghost use lib.ListN.{length, drop};
+ghost use Rattle.meaning.specs.Reading.{lower, readText};
+ghost use Rattle.reading.specs.Run.{run};
+ghost use Rattle.reading.specs.Scan.{Scanned};
+ghost use Rattle.reading.specs.Split.{startOf, Shifted};
+ghost use Rattle.reading.specs.Told.{Gives};
+use crate::answer::Answer;
+use crate::scan::Spans;
+use limbs::wide;
+use limbs::wide::Shift;
+
+pub mod answer;
+pub mod round;
+pub mod run;
+pub mod scan;
+pub mod words;
+
+// F: how many bytes stand after the first point.
+fn fraction(point: usize, stop: usize) -> u64
+    ensures { λ r. ⌜ r ≡ stop - (point + 1) ⌝ }
+{
+    if stop <= point {
+        return 0;
+    }
+    (stop - point - 1) as u64
+}
+
+// Steps 3 to 6: x = E-F, or the number of a refusal.
+fn shift(s: &[u8], start: usize, d: Spans) -> Shift
+    requires { ⌜ Scanned (now s) start d × (start ≤ length (now s)) ⌝ }
+    ensures { λ r. ⌜ Shifted (map lower (drop start (now (s .entry)))) (run (d .found .point) start (d .stop) (now (s .entry))) r ⌝ }
+{
+    let stop = d.stop;
+    let f = fraction(d.found.point, stop);
+    if stop == s.len() {
+        if stop - start == d.found.points {
+            return wide::refused(7);
+        }
+        return wide::minus(f);
+    }
+    if words::lower_case(s[stop]) != 101 {
+        return wide::refused(words::wrong(s, stop));
+    }
+    if stop + 1 == s.len() {
+        return wide::refused(1);
+    }
+    if stop - start == d.found.points {
+        return wide::refused(7);
+    }
+    wide::exponent_less(s, stop + 1, f)
+}
+
+// Where the text starts, after its sign.
+fn start_of(first: u8) -> usize
+    ensures { λ r. ⌜ r ≡ startOf first ⌝ }
+{
+    if first == 45 {
+        return 1;
+    }
+    if first == 43 {
+        return 1;
+    }
+    0
+}
+
+// Steps 1 to 11.
+pub fn read(s: &[u8]) -> Answer
+    ensures { λ r. ⌜ Gives (readText (now (s .entry))) r ⌝ }
+{
+    if s.len() == 0 {
+        return answer::refused(7);
+    }
+    let first = s[0];
+    let negative = first == 45;
+    let start = start_of(first);
+    let d = scan::scan(s, start);
+    if d.stop == start {
+        return words::word(s, start, negative);
+    }
+    let x = shift(s, start, d);
+    if x.number != 0 {
+        return answer::refused(x.number);
+    }
+    round::finite(s, start, d, negative, x)
+}

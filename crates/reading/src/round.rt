@@ -1,0 +1,139 @@
+// Steps 7 to 11: from the run and x = E-F to the value.
+ghost use mathlib.Core.Path.{_≡_};
+ghost use mathlib.Core.List.{_++_};
+ghost use mathlib.Core.Bool.{true};
+ghost use Prim.Native.Nat.{ℕ, _+_, _-_, _<_, _≤_};
+ghost use lib.ListN.{length, take, replicate};
+ghost use Rattle.meaning.specs.Reading.{low, number, stripZeros, step7, step9, step11};
+ghost use Rattle.limbs.specs.Value.{value};
+ghost use Rattle.limbs.specs.Wide.{Stands, Raised};
+ghost use Rattle.reading.specs.Run.{run, Walked};
+ghost use Rattle.reading.specs.Scan.{Scanned, Short};
+ghost use Rattle.reading.specs.Told.{Gives};
+use crate::answer;
+use crate::answer::Answer;
+use crate::run;
+use crate::scan;
+use crate::scan::Spans;
+use limbs::powers;
+use limbs::wide;
+use limbs::wide::Shift;
+use limbs::wide::Stand;
+
+// Step 11: the value of what is kept of the run, from first up to `to`, with pad zeros behind.
+fn kept(
+    s: &[u8],
+    d: Spans,
+    first: usize,
+    to: usize,
+    negative: bool,
+    field: u32,
+    pad: usize,
+) -> Answer
+    requires { ⌜ Walked (now s) first d × (first ≤ to) × (to ≤ d .stop) ⌝ }
+    requires { ⌜ length (run (d .found .point) first to (now s)) + pad ≤ 34 ⌝ }
+    ensures { λ r. ⌜ (field ≤ 12287 → Gives (step11 negative (low + field) (run (d .found .point) first to (now (s .entry)) ++ replicate pad 48)) r) ⌝ }
+{
+    if d.found.second < to {
+        return answer::refused(3);
+    }
+    let c = run::push_digits([0, 0, 0, 0], s, first, to, d.found.point);
+    answer::finite(negative, field, powers::padded(c, pad))
+}
+
+// Steps 9 to 11, of the first `count` bytes of the run, at most 34.
+fn placed(s: &[u8], d: Spans, first: usize, count: usize, negative: bool, x: Shift) -> Answer
+    requires { ⌜ Walked (now s) first d × (count ≤ 34) × (count ≤ length (run (d .found .point) first (d .stop) (now s))) ⌝ }
+    ensures { λ r. ⌜ ((n : ℕ) → Raised n x → Gives (step9 negative n (take count (run (d .found .point) first (d .stop) (now (s .entry))))) r) ⌝ }
+{
+    let p = wide::place(x);
+    let below = p.below as usize;
+    let above = p.above as usize;
+    // Overflow at both ends: Underflow is step 6's alone.
+    if count < below {
+        return answer::refused(4); // too small
+    }
+    if 34 < count + above {
+        return answer::refused(4); // too large
+    }
+    let point = d.found.point;
+    let cut = run::after(first, count - below, point);
+    let end = run::after(first, count, point);
+    if run::first_other(s, cut, end, point) < end {
+        return answer::refused(6);
+    }
+    kept(s, d, first, cut, negative, p.field, above)
+}
+
+// Steps 7 to 11.
+fn rounded(s: &[u8], start: usize, d: Spans, negative: bool, x: Shift) -> Answer
+    requires { ⌜ Walked (now s) start d ⌝ }
+    ensures { λ r. ⌜ ((n : ℕ) → Stands n x → Gives (step7 negative n (stripZeros (run (d .found .point) start (d .stop) (now (s .entry))))) r) ⌝ }
+{
+    let stop = d.stop;
+    let point = d.found.point;
+    let first = run::first_other(s, start, stop, point);
+    let count = run::count(first, stop, point);
+    if count == 0 {
+        let p = wide::place(x);
+        return answer::finite(negative, p.field, [0, 0, 0, 0]);
+    }
+    let keep = scan::least(count, 34);
+    let end = run::after(first, keep, point);
+    if run::first_other(s, end, stop, point) < stop {
+        return answer::refused(6);
+    }
+    placed(
+        s,
+        d,
+        first,
+        keep,
+        negative,
+        wide::raised(x, (count - keep) as u64),
+    )
+}
+
+// Nothing is cut or padded: x is in range, and there are at most 34 digits and one point.
+fn is_short(p: Stand, width: usize, points: usize) -> bool
+    requires { ⌜ points ≤ width ⌝ }
+    ensures { λ r. ⌜ (r ≡ true → Short p width points) ⌝ }
+{
+    if p.below != 0 {
+        return false;
+    }
+    if p.above != 0 {
+        return false;
+    }
+    if 2 <= points {
+        return false;
+    }
+    if 34 < width - points {
+        return false;
+    }
+    true
+}
+
+// The number of at most 34 digits that a decimal part with at most one point writes.
+fn whole(s: &[u8], start: usize, d: Spans) -> [u32; 4]
+    requires { ⌜ Scanned (now s) start d × (start ≤ length (now s)) × (d .found .points < 2) × (d .stop - start - d .found .points ≤ 34) ⌝ }
+    ensures { λ r. ⌜ value r ≡ number 0 (run (d .found .point) start (d .stop) (now (s .entry))) ⌝ }
+{
+    let c = limbs::of_u64(d.found.value);
+    let stop = d.stop;
+    if stop - start <= 19 {
+        return c;
+    }
+    run::push_digits(c, s, start + 19, stop, d.found.point)
+}
+
+// Steps 7 to 11.
+pub fn finite(s: &[u8], start: usize, d: Spans, negative: bool, x: Shift) -> Answer
+    requires { ⌜ Scanned (now s) start d × (start ≤ length (now s)) ⌝ }
+    ensures { λ r. ⌜ ((n : ℕ) → Stands n x → Gives (step7 negative n (stripZeros (run (d .found .point) start (d .stop) (now (s .entry))))) r) ⌝ }
+{
+    let p = wide::place(x);
+    if is_short(p, d.stop - start, d.found.points) {
+        return answer::finite(negative, p.field, whole(s, start, d));
+    }
+    rounded(s, start, d, negative, x)
+}

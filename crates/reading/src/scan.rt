@@ -1,0 +1,132 @@
+// One pass over the decimal part of a text: where it stops, its points, and the number of its first bytes.
+ghost use mathlib.Core.Path.{_≡_};
+ghost use mathlib.Core.Logic.{_⊎_};
+ghost use mathlib.Core.Bool.{Bool, false, cond};
+ghost use Prim.Native.Nat.{ℕ, _+_, _-_, _*_, _^_, _<_, _≤_, min};
+ghost use lib.Dec.{eqb};
+ghost use lib.ListN.{length, getD};
+ghost use lib.Seq.{slice};
+ghost use Rattle.meaning.specs.Reading.{isDigit, number};
+ghost use Rattle.reading.specs.Scan.{withDigit, withPoint, Passing, Added, Stopped, Scanned};
+
+// What the pass has found so far: where the first two points stand, or the length of the text, how many points there
+// are, and the number that the digits write.
+pub struct Found {
+    pub point: usize,
+    pub second: usize,
+    pub points: usize,
+    pub value: u64,
+}
+
+// The same, and where the decimal part stops. The value is that of its first 19 bytes.
+pub struct Spans {
+    pub stop: usize,
+    pub found: Found,
+}
+
+fn is_digit(b: u8) -> bool
+    ensures { λ r. ⌜ r ≡ isDigit b ⌝ }
+{
+    48 <= b && b <= 57
+}
+
+fn with_digit(m: Found, b: u8) -> Found
+    requires { ⌜ (48 ≤ b) × (b ≤ 57) × (m .value < 10 ^ 18) ⌝ }
+    ensures { λ r. ⌜ r ≡ withDigit m b ⌝ }
+{
+    Found {
+        point: m.point,
+        second: m.second,
+        points: m.points,
+        value: m.value * 10 + (b - 48) as u64,
+    }
+}
+
+fn either(first: bool, a: usize, b: usize) -> usize
+    ensures { λ r. ⌜ r ≡ cond first a b ⌝ }
+{
+    if first { a } else { b }
+}
+
+fn with_point(m: Found, i: usize) -> Found
+    requires { ⌜ m .points < 2 ^ 63 ⌝ }
+    ensures { λ r. ⌜ r ≡ withPoint m i ⌝ }
+{
+    Found {
+        point: either(m.points == 0, i, m.point),
+        second: either(m.points == 1, i, m.second),
+        points: m.points + 1,
+        value: m.value,
+    }
+}
+
+// The decimal part from `from` on, with what was found before; its digits are not added up.
+fn scan_on(s: &[u8], from: usize, before: Found) -> Spans
+    requires { ⌜ (from ≤ length (now s)) × (before .points ≤ from) ⌝ }
+    ensures { λ r. ⌜ ((start : ℕ) → Passing (now (s .entry)) start from before → Passing (now (s .entry)) start (r .stop) (r .found)) ⌝ }
+    ensures { λ r. ⌜ Stopped (now (s .entry)) (r .stop) × (r .found .value ≡ before .value) × (from ≤ r .stop) ⌝ }
+{
+    let mut m = before;
+    let mut i = from;
+    while i < s.len() {
+        let b = s[i];
+        if !is_digit(b) {
+            if b != 46 {
+                return Spans { stop: i, found: m };
+            }
+            m = with_point(m, i);
+        }
+        i += 1;
+    }
+    Spans { stop: i, found: m }
+}
+
+// The decimal part from start on, up to end, which is at most 19 bytes on.
+fn scan_short(s: &[u8], start: usize, end: usize) -> Spans
+    requires { ⌜ (start ≤ end) × (end ≤ length (now s)) × (end ≤ start + 19) ⌝ }
+    ensures { λ r. ⌜ Passing (now (s .entry)) start (r .stop) (r .found) × Added (now (s .entry)) start (r .stop) (r .found) ⌝ }
+    ensures { λ r. ⌜ (r .stop ≤ end) × (r .stop < end → Stopped (now (s .entry)) (r .stop)) ⌝ }
+{
+    let mut m = Found {
+        point: s.len(),
+        second: s.len(),
+        points: 0,
+        value: 0,
+    };
+    let mut i = start;
+    while i < end {
+        let b = s[i];
+        if is_digit(b) {
+            m = with_digit(m, b);
+        } else {
+            if b != 46 {
+                return Spans { stop: i, found: m };
+            }
+            m = with_point(m, i);
+        }
+        i += 1;
+    }
+    Spans { stop: i, found: m }
+}
+
+pub fn least(a: usize, b: usize) -> usize
+    ensures { λ r. ⌜ r ≡ min a b ⌝ }
+{
+    if a < b { a } else { b }
+}
+
+// The decimal part of a text that starts at start.
+pub fn scan(s: &[u8], start: usize) -> Spans
+    requires { ⌜ start ≤ length (now s) ⌝ }
+    ensures { λ r. ⌜ Scanned (now (s .entry)) start r ⌝ }
+{
+    let end = least(s.len(), start + 19);
+    let d = scan_short(s, start, end);
+    if d.stop < end {
+        return d;
+    }
+    if end == s.len() {
+        return d;
+    }
+    scan_on(s, d.stop, d.found)
+}

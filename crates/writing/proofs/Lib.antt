@@ -1,0 +1,6 @@
+pub mod Written
+pub mod Point
+pub mod Low
+pub mod Texts
+pub mod Puts
+pub mod Values
