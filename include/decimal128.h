@@ -26,8 +26,8 @@ enum decimal128_number {
     DECIMAL128_NO_ROOM = 9
 };
 
-/* No text is longer than this, and no record; every debug form has just this length. */
-enum { DECIMAL128_TEXT = 42, DECIMAL128_DEBUG = 44, DECIMAL128_RECORD = 78 };
+/* No text is longer than this; every debug form has just this length. */
+enum { DECIMAL128_TEXT = 42, DECIMAL128_DEBUG = 44 };
 
 /* Reads a text of len bytes. Accepted: the value's 16 bytes are in out16. Refused, 1 to 7: out16 holds 16 zero bytes. */
 uint32_t decimal128_read(const uint8_t *text, size_t len, uint8_t out16[16]);
@@ -41,10 +41,6 @@ uint32_t decimal128_debug(const uint8_t bytes16[16], uint8_t *buf, size_t cap, s
 
 /* Takes 16 bytes as they are. A len other than 16 is refused with 8, MalformedBytes, and out16 holds 16 zero bytes. */
 uint32_t decimal128_parse(const uint8_t *bytes, size_t len, uint8_t out16[16]);
-
-/* Reads a text and writes its record: number, 32 hex digits and the written text, parted by tabs, and LF; after a refusal the
- * number and - twice. Returns NoRoom or accepted, as decimal128_write does: a refused text has a record too. */
-uint32_t decimal128_record(const uint8_t *text, size_t len_text, uint8_t *buf, size_t cap, size_t *len);
 
 #ifdef __cplusplus
 }

@@ -64,10 +64,6 @@ int main(void) {
     expect(decimal128_debug(bytes, buf, 44, &len) == 0 && len == 44 && !memcmp(buf, "Decimal128(00112233445566778899aabbccddeeff)", 44), "the debug form");
     memset(buf, 0x55, sizeof buf);
     expect(decimal128_debug(bytes, buf, 43, &len) == 9 && len == 0 && buf[0] == 0x55 && buf[42] == 0x55, "the debug form without room");
-    static const char record[] = "0\t05000000000000000000000000003e30\t0.5\n";
-    expect(decimal128_record((const uint8_t *)"0.5", 3, buf, sizeof buf, &len) == 0 && len == sizeof record - 1 && !memcmp(buf, record, len), "a record");
-    expect(decimal128_record((const uint8_t *)"x", 1, buf, sizeof buf, &len) == 0 && len == 6 && !memcmp(buf, "7\t-\t-\n", 6), "the record of a refused text");
-    expect(decimal128_record((const uint8_t *)"0.5", 3, buf, sizeof record - 2, &len) == 9 && len == 0, "a record without room");
     printf("%d passed, %d failed\n", passed, failed);
     return failed != 0;
 }

@@ -3,8 +3,6 @@ use crate::Decimal128;
 use writing::Put;
 ghost use Rattle.meaning.specs.Layout.{stored, decode};
 ghost use Rattle.meaning.specs.Writing.{writeText, debugText};
-ghost use Rattle.meaning.specs.Reading.{readText};
-ghost use Rattle.meaning.specs.Stream.{recordText};
 ghost use Rattle.decimal128.specs.Operations.{PutGives, ReadGives, ParseGives, putNumber, putLength};
 ghost use mathlib.Core.Path.{_≡_};
 
@@ -62,13 +60,4 @@ pub extern "C" fn decimal128_parse(bytes: &[u8], out: &mut [u8; 16]) -> u32
     let value = answer.bytes;
     *out = value;
     answer.number
-}
-
-#[no_mangle]
-pub extern "C" fn decimal128_record(text: &[u8], buf: &mut [u8], len: &mut usize) -> u32
-    ensures { λ r. ⌜ PutGives (recordText (readText (now (text .entry)))) (now (buf .entry)) r (now (len .exit)) (now (buf .exit)) ⌝ }
-{
-    let put = crate::record(text, buf);
-    *len = length_of(put);
-    number_of(put)
 }

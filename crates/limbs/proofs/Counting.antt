@@ -1,14 +1,11 @@
 -- Laws of the count of decimal digits.
-use mathlib.Core.Path.{_≡_, refl, sym, _∙_}
+use mathlib.Core.Path.{_≡_, refl, sym}
 use mathlib.Core.Logic.{inl, inr, ⊎-elim}
-use mathlib.Core.Bool.{Bool, true, false}
 use Prim.Native.Nat.{ℕ, zero, suc, _+_, _-_, _*_, _/_, _^_, _≤_, _<_}
 use native.Mathlib.Nat.{mul-comm, pow-succ', div-lt-iff-lt-mul, le-div-iff-mul-le}
 use native.Mathlib.Omega.{arith}
-use lib.Dec.{ltb}
 use lib.ListN.{length}
 use lib.Pow.{pow-add}
-use borrow.Author.Tests.{ltb-true, ltb-false}
 use Rattle.meaning.specs.Writing.{decimal}
 use Rattle.meaning.proofs.Numbers.{le-or, pow-pos, pow-le}
 use Rattle.meaning.proofs.Digits.{Counted, count-is}
@@ -47,10 +44,3 @@ counts-more j n (suc i) l h =
 
 pub four : (k n : ℕ) → k < 32 → 10 ^ k ≤ n → n < 10 ^ (k + 4) → Four n k (10 ^ (k + 1)) (10 ^ (k + 2)) (10 ^ (k + 3))
 four k n f l h = record { few = f; above = l; first = refl; second = refl; third = refl; below = h }
-
--- a test that was made
-pub is-below : {r : Bool} (m n : ℕ) → r ≡ ltb m n → r ≡ true → m < n
-is-below m n e f = ltb-true m n (sym e ∙ f)
-
-pub is-not-below : {r : Bool} (m n : ℕ) → r ≡ ltb m n → r ≡ false → n ≤ m
-is-not-below m n e f = ltb-false m n (sym e ∙ f)

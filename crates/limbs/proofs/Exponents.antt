@@ -7,20 +7,20 @@ use Prim.Native.Nat.{ℕ, _+_, _-_, _*_, _^_, _≤_, _<_}
 use native.Mathlib.Nat.{le-trans, lt-of-lt-of-le, pow-succ'}
 use native.Mathlib.Numerals.{add-one}
 use native.Mathlib.Omega.{arith}
-use lib.Dec.{leb, ltb, eqb, lit<}
+use lib.Dec.{leb, ltb, eqb, lit<, lit≤}
 use lib.ListN.{length, drop, getD, length-drop}
 use lib.Seq.{drop-cons, drop-length}
 use borrow.Author.Tests.{lt-ltb, le-ltb, le-leb, lt-leb, leb-true, eq-eqb, ne-eqb}
 use Rattle.meaning.specs.Reading.{origin, isDigit, allDigits, someDigits, number, exponent, Written}
 use Rattle.meaning.specs.Reading.Written.{written, wrong}
-use Rattle.meaning.proofs.Numbers.{le-or, both-of, pow-le}
+use Rattle.meaning.proofs.Numbers.{le-or, both-of, byte-digit, pow-le}
 use Rattle.limbs.specs.Value.{value}
 use Rattle.limbs.specs.Wide.{Spells, inRange, signed, Signed, WrittenAs}
 use Rattle.limbs.specs.declared.wide.Wide.{Wide}
 
-origin-small : origin < 2 ^ 128
+pub past-origin : {v : ℕ} → 2 ^ 128 ≤ v → origin < v
 unfolding origin
-origin-small = lit< tt
+past-origin h = lt-of-lt-of-le (lit< tt) h
 
 -- ---- digits
 
@@ -79,12 +79,15 @@ pub spelling-goes-on : {s : List ℕ} {from start i n m : ℕ} → Spelling s fr
 spelling-goes-on {s} {from} {start} {i} {n} p l d e =
     record { after = omega (arith, p .after); within = omega arith; rest = λ g v h. p .rest g v (spells-next s i n l g v d e h) }
 
+pub digit-small : (b : ℕ) → isDigit b ≡ true → b - 48 < 10
+digit-small b e = let d = byte-digit b e in omega arith
+
 -- eighteen digits fit 64 bits
 pub digit-more : (k : ℕ) {n d : ℕ} → n < 10 ^ k → d < 10 → n * 10 + d < 10 ^ (k + 1)
 digit-more k h l = rw (add-one, pow-succ') (omega arith)
 
-pub eighteen : (k : ℕ) {n d : ℕ} → n < 10 ^ k → d < 10 → k < 18 → n * 10 + d < 10 ^ 18
-eighteen k h d l = lt-of-lt-of-le (digit-more k h d) (pow-le {i = k + 1} {j = 18} (omega arith))
+pub eighteen : (k : ℕ) {n d : ℕ} → n < 10 ^ k → d < 10 → k < 18 → n * 10 + d < 2 ^ 64
+eighteen k h d l = lt-of-lt-of-le (digit-more k h d) (le-trans (pow-le {i = k + 1} {j = 18} (omega arith)) (lit≤ tt))
 
 -- ---- the range
 
@@ -141,7 +144,7 @@ digits-wrong neg (b ∷ t) h = signed-is neg (b ∷ t) ∙ rw h
 pub bad-wrong : (neg : Bool) (t : List ℕ) {g : Bool} (v : ℕ) → g ≡ false → Spells 0 t g v → signed neg t ≡ wrong
 unfolding Spells
 bad-wrong neg t v e h =
-    ⊎-elim (digits-wrong neg t) (λ l. range-wrong neg t (too-large-any neg (number 0 t) (lt-of-lt-of-le origin-small l)))
+    ⊎-elim (digits-wrong neg t) (λ l. range-wrong neg t (too-large-any neg (number 0 t) (past-origin l)))
     (subst (λ (b : Bool). Spells 0 t b v) e h)
 
 -- or they write too large a number

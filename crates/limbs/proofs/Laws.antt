@@ -11,7 +11,7 @@ use mir.Syntax.{w32}
 use mir.Val.{Fits}
 use lib.ListN.{length, getD}
 use lib.Arith.{digits-div, digits-mod}
-use borrow.Author.Tests.{lt-ltb, le-ltb}
+use borrow.Author.Tests.{lt-ltb, le-ltb, ltb-true, ltb-false}
 use Rattle.meaning.proofs.Numbers.{le-or}
 use Rattle.limbs.specs.Value.{value}
 
@@ -54,6 +54,13 @@ module _ (a : List ℕ) (l : length a ≡ 4) where
   low-two f g = rw (value-four a l) (two-low _ f g)
 
 -- ---- order
+
+-- a test that was made
+pub is-below : {t : Bool} (m n : ℕ) → t ≡ ltb m n → t ≡ true → m < n
+is-below m n e f = ltb-true m n (sym e ∙ f)
+
+pub is-not-below : {t : Bool} (m n : ℕ) → t ≡ ltb m n → t ≡ false → n ≤ m
+is-not-below m n e f = ltb-false m n (sym e ∙ f)
 
 -- t says whether m is below n, which is another number
 pub record Decides (t : Bool) (m n : ℕ) : Type 0 where

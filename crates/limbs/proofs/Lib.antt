@@ -1,6 +1,6 @@
 pub mod Laws
-pub mod Table
 pub mod Rows
 pub mod Counting
 pub mod Exponents
 pub mod Shifts
+pub mod Steps

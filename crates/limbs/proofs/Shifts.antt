@@ -3,13 +3,12 @@ use mathlib.Core.Path.{_≡_, refl, sym, subst, _∙_}
 use mathlib.Core.Logic.{inl, inr, ⊎-elim}
 use mathlib.Core.Bool.{Bool, true, false, not, true≢false}
 use Prim.Native.Nat.{ℕ, _+_, _-_, _^_, _≤_, _<_, min, max}
-use native.Mathlib.Nat.{lt-of-lt-of-le}
 use native.Mathlib.Omega.{arith}
-use lib.Dec.{lit≤, lit<}
+use lib.Dec.{lit≤}
 use borrow.Author.Tests.{leb-true, leb-false, not-true, not-false}
 use Rattle.meaning.specs.Refusals.{numberOf}
 use Rattle.meaning.specs.Refusals.Refusal.{invalidExponent, underflow}
-use Rattle.meaning.specs.Reading.{origin, low, high, number, Written}
+use Rattle.meaning.specs.Reading.{origin, low, high, Written}
 use Rattle.meaning.specs.Reading.Written.{written, wrong}
 use Rattle.meaning.proofs.Numbers.{le-or}
 use Rattle.limbs.specs.Value.{value}
@@ -20,21 +19,17 @@ use Rattle.limbs.specs.declared.wide.Stand.{Stand}
 
 -- ---- 2^127, which `omega` takes as an unknown
 
-pub low-origin : low + 6176 ≡ origin
+low-origin : low + 6176 ≡ origin
 unfolding low origin
 low-origin = refl
 
-pub high-origin : high ≡ origin + 6111
+high-origin : high ≡ origin + 6111
 unfolding high origin
 high-origin = refl
 
-pub origin-large : 2 ^ 64 ≤ origin
+origin-large : 2 ^ 64 ≤ origin
 unfolding origin
 origin-large = lit≤ tt
-
-origin-small : origin < 2 ^ 128
-unfolding origin
-origin-small = lit< tt
 
 -- ---- step 6
 
@@ -88,9 +83,6 @@ out-of-range {t} v e h = leb-false v origin (sym e ∙ not-true t h)
 
 pub in-range : {t : Bool} (v : ℕ) → t ≡ inRange true v → not t ≡ false → v ≤ origin
 in-range {t} v e h = leb-true v origin (sym e ∙ not-false t h)
-
-pub past-origin : {v : ℕ} → 2 ^ 128 ≤ v → origin < v
-past-origin h = lt-of-lt-of-le origin-small h
 
 -- steps 5 and 6
 pub refused-wrong : (w : Written) (e : Wide) (f : ℕ) (r : Shift) → WrittenAs w e → e .good ≡ false → r .number ≡ numberOf invalidExponent → Lowered w f r

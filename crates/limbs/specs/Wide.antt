@@ -42,16 +42,16 @@ WrittenAs (written n) w = (w .good ≡ true) × Signed (w .negative) (value (w .
 
 -- ---- steps 6 to 10
 
--- size, or minus size, is n - 2^127: exactly while it is below far; from there on it may stand for any that is larger still
+-- n - 2^127 is size, or minus size, while size is below far; from there on it may be any that is larger still
 unfoldable pub Sized : ℕ → ℕ → Bool → ℕ → Type 0
 Sized far n true size = (n + size ≤ origin) × (size < far → n + size ≡ origin)
 Sized far n false size = (origin + size ≤ n) × (size < far → n ≡ origin + size)
 
--- x is the exponent n - 2^127, as step 6 leaves it
+-- x is the exponent n - 2^127, as step 6 leaves it: the largest size of 64 bits stands for all that are larger too
 abbrev pub Stands : ℕ → Shift → Type 0
 Stands n x = Sized (2 ^ 64 - 1) n (x .negative) (x .size)
 
--- and after step 8, which adds less than 2^63 to it
+-- the same after step 8, which may have taken up to 2^63 - 1 off that size, and so is made once
 abbrev pub Raised : ℕ → Shift → Type 0
 Raised n x = Sized (2 ^ 63) n (x .negative) (x .size)
 

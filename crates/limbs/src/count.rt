@@ -7,6 +7,7 @@ ghost use Rattle.meaning.specs.Writing.{decimal};
 ghost use Rattle.limbs.specs.Value.{value};
 ghost use Rattle.limbs.specs.Count.{Counts, Four};
 
+// Of a number of one limb.
 fn in_limb(v: u32) -> usize
     ensures { λ r. ⌜ Counts v r × (r ≤ 10) ⌝ }
 {
@@ -33,6 +34,7 @@ fn in_limb(v: u32) -> usize
     }
 }
 
+// Of a number of two limbs.
 fn in_u64(v: u64) -> usize
     ensures { λ r. ⌜ Counts v r ⌝ }
 {

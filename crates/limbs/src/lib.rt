@@ -60,6 +60,7 @@ pub enum Order {
     Greater,
 }
 
+// The order of a and b.
 pub fn compare(a: [u32; 4], b: [u32; 4]) -> Order
     ensures { λ r. ⌜ r ≡ order (value a) (value b) ⌝ }
 {
@@ -86,6 +87,7 @@ pub struct Carried {
     pub carry: u32,
 }
 
+// x plus y, plus what is carried in.
 fn add_limb(x: u32, y: u32, carry: u32) -> Limb
     ensures { λ r. ⌜ r .low + 2 ^ 32 * r .carry ≡ x + y + carry ⌝ }
 {
@@ -110,6 +112,7 @@ pub fn add(a: [u32; 4], b: [u32; 4]) -> Carried
     }
 }
 
+// x times by, plus what is carried in.
 fn multiply_limb(x: u32, by: u32, carry: u32) -> Limb
     ensures { λ r. ⌜ r .low + 2 ^ 32 * r .carry ≡ x * by + carry ⌝ }
 {
@@ -134,6 +137,7 @@ pub fn multiply(a: [u32; 4], by: u32, more: u32) -> Carried
     }
 }
 
+// a with one more digit behind it.
 pub fn times_ten_plus(a: [u32; 4], digit: u32) -> [u32; 4]
     requires { ⌜ value a * 10 + digit < 2 ^ 128 ⌝ }
     ensures { λ r. ⌜ value r ≡ value a * 10 + digit ⌝ }
@@ -166,7 +170,7 @@ pub fn times(a: [u32; 4], b: [u32; 4]) -> [u32; 4]
 
 // ---- differences
 
-// One limb of a difference; the carry is what the next limb owes it.
+// x less y, less what is owed; the carry is what the next limb then owes.
 fn subtract_limb(x: u32, y: u32, owed: u32) -> Limb
     requires { ⌜ owed < 2 ⌝ }
     ensures { λ r. ⌜ (x + 2 ^ 32 * r .carry ≡ r .low + y + owed) × (r .carry < 2) ⌝ }
@@ -192,11 +196,13 @@ pub fn subtract(a: [u32; 4], b: [u32; 4]) -> [u32; 4]
 
 // ---- division
 
+// One limb of a quotient, and what is left for the next limb.
 pub struct DividedLimb {
     pub quotient: u32,
     pub rest: u32,
 }
 
+// A quotient, and the remainder.
 pub struct Divided {
     pub quotient: [u32; 4],
     pub rest: u32,
@@ -215,6 +221,7 @@ fn divide_limb(rest: u32, limb: u32, by: u32) -> DividedLimb
     }
 }
 
+// a by a number of one limb, from the highest limb on.
 pub fn divide(a: [u32; 4], by: u32) -> Divided
     requires { ⌜ 0 < by ⌝ }
     ensures { λ r. ⌜ (value (r .quotient) ≡ value a / by) × (r .rest ≡ value a % by) ⌝ }
@@ -229,7 +236,7 @@ pub fn divide(a: [u32; 4], by: u32) -> Divided
     }
 }
 
-// A number below 2^64 is divided at once.
+// a by ten; a number below 2^64 is divided at once.
 pub fn divide_by_ten(a: [u32; 4]) -> Divided
     ensures { λ r. ⌜ (value (r .quotient) ≡ value a / 10) × (r .rest ≡ value a % 10) × (r .rest < 10) ⌝ }
 {

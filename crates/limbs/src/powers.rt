@@ -113,6 +113,7 @@ const POWERS: [[u32; 4]; 35] = [
     TEN_34,
 ];
 
+// 10^k.
 pub fn power(k: usize) -> [u32; 4]
     requires { ⌜ k ≤ 34 ⌝ }
     ensures { λ r. ⌜ value r ≡ 10 ^ k ⌝ }

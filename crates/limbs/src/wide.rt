@@ -37,6 +37,7 @@ pub struct Stand {
 
 // ---- step 5
 
+// b is `0` to `9`.
 fn is_digit(b: u8) -> bool
     ensures { λ r. ⌜ r ≡ isDigit b ⌝ }
 {
@@ -46,6 +47,7 @@ fn is_digit(b: u8) -> bool
     b <= 57
 }
 
+// No number: a byte is no digit, or 128 bits are passed.
 fn bad() -> Size
     ensures { λ r. ⌜ r .good ≡ false ⌝ }
 {
@@ -105,6 +107,7 @@ fn digits(s: &[u8], from: usize) -> Size
     }
 }
 
+// 2^127.
 const ORIGIN: [u32; 4] = [0, 0, 0, 0x8000_0000];
 
 // The size is below 2^127, or is 2^127 where the sign is minus.
@@ -117,6 +120,7 @@ fn in_range(negative: bool, size: [u32; 4]) -> bool
     crate::less(size, ORIGIN)
 }
 
+// No exponent is written.
 fn no_exponent() -> Wide
     ensures { λ r. ⌜ r .good ≡ false ⌝ }
 {
@@ -174,6 +178,7 @@ fn written(s: &[u8], at: usize) -> Wide
 
 // ---- step 6
 
+// A refusal, and nothing else.
 pub fn refused(number: u32) -> Shift
     ensures { λ r. ⌜ r .number ≡ number ⌝ }
 {
@@ -282,6 +287,7 @@ pub fn raised(x: Shift, cut: u64) -> Shift
     }
 }
 
+// n, up to 35.
 fn up_to_35(n: u64) -> u32
     ensures { λ r. ⌜ r ≡ min 35 n ⌝ }
 {

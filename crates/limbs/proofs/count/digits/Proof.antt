@@ -4,7 +4,8 @@ use Prim.Native.Nat.{_^_}
 use native.Mathlib.Nat.{mod-eq-of-lt, le-trans, lt-of-lt-of-le}
 use lib.Dec.{lit<, lit≤}
 use Rattle.limbs.specs.Value.{value}
-use Rattle.limbs.proofs.Counting.{counts-decimal, four, is-below, is-not-below}
+use Rattle.limbs.proofs.Laws.{is-below, is-not-below}
+use Rattle.limbs.proofs.Counting.{counts-decimal, four}
 use Rattle.limbs.proofs.count.digits.Statement.{statement}
 use Rattle.limbs.proofs.count.digits.Tie as tie
 
@@ -17,15 +18,19 @@ returns c =
 
 from-requires : tie.Need-from-requires
 from-requires c κs =
-    four 19 _ (lit< tt) (le-trans {m = 2 ^ 64} (lit≤ tt) (is-not-below _ _ (c .before .before .before .before .before .fits-u64 .ensures) (c .before .before .before .before .if1 .left))) (is-below _ _ (c .before .less2 .ensures) (c .if3 .taken))
+    four 19 _ (lit< tt)
+    (le-trans {m = 2 ^ 64} (lit≤ tt) (is-not-below _ _ (c .before .before .before .before .before .fits-u64 .ensures) (c .before .before .before .before .if1 .left)))
+    (is-below _ _ (c .before .less2 .ensures) (c .if3 .taken))
 
 from-requires-2 : tie.Need-from-requires-2
 from-requires-2 c κs =
-    four 23 _ (lit< tt) (is-not-below _ _ (c .before .less2 .ensures) (c .if3 .left)) (is-below _ _ (c .before .before .before .less .ensures) (c .before .before .if2 .taken))
+    four 23 _ (lit< tt) (is-not-below _ _ (c .before .less2 .ensures) (c .if3 .left))
+    (is-below _ _ (c .before .before .before .less .ensures) (c .before .before .if2 .taken))
 
 from-requires-3 : tie.Need-from-requires-3
 from-requires-3 c κs =
-    four 27 _ (lit< tt) (is-not-below _ _ (c .before .before .before .less .ensures) (c .before .before .if2 .left)) (is-below _ _ (c .before .less3 .ensures) (c .if4 .taken))
+    four 27 _ (lit< tt) (is-not-below _ _ (c .before .before .before .less .ensures) (c .before .before .if2 .left))
+    (is-below _ _ (c .before .less3 .ensures) (c .if4 .taken))
 
 from-requires-4 : tie.Need-from-requires-4
 from-requires-4 c κs = four 31 _ (lit< tt) (is-not-below _ _ (c .before .less3 .ensures) (c .if4 .left)) (lt-of-lt-of-le (c .before .before .before .before .before .before .pre) (lit≤ tt))

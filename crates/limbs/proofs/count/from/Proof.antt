@@ -1,7 +1,8 @@
 use borrow.Author.Needs.{needs}
 use Prim.Native.Nat.{_+_}
 use native.Mathlib.Omega.{arith}
-use Rattle.limbs.proofs.Counting.{counts-between, is-below, is-not-below}
+use Rattle.limbs.proofs.Laws.{is-below, is-not-below}
+use Rattle.limbs.proofs.Counting.{counts-between}
 use Rattle.limbs.proofs.count.from.Statement.{statement}
 use Rattle.limbs.proofs.count.from.Tie as tie
 

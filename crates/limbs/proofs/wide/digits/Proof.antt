@@ -5,11 +5,13 @@ use mathlib.Core.Path.{_≡_, refl, sym, _∙_}
 use mathlib.Core.Bool.{true}
 use native.Mathlib.Omega.{arith}
 use Prim.Native.Nat.{_+_, _-_, _^_, _<_, _≤_}
+use native.Mathlib.Nat.{le-add-right, lt-of-le-of-lt, lt-of-lt-of-le}
+use lib.Dec.{lit≤}
 use lib.ListN.{length, getD}
 use denote.Ref.{now}
 use Rattle.meaning.specs.Reading.{isDigit}
 use Rattle.meaning.proofs.Numbers.{byte-digit}
-use Rattle.limbs.proofs.Exponents.{Spelling, spelling-starts, spelling-goes-on, no-digit-at, spells-all, digit-more, eighteen}
+use Rattle.limbs.proofs.Exponents.{Spelling, spelling-starts, spelling-goes-on, no-digit-at, spells-all, digit-small, digit-more, eighteen}
 use Rattle.limbs.proofs.wide.digits.Statement.{statement}
 use Rattle.limbs.proofs.wide.digits.Tie as tie
 
@@ -22,11 +24,8 @@ abbrev μ-loop : tie.MeasureT-loop
 digit : (c : tie.Else1 Inv-loop μ-loop) → isDigit (getD (now (c .before .before .before .before .before .before .args .s)) (c .before .before .before .before .loop .i) 0) ≡ true
 digit c = sym (c .before .is-digit .ensures) ∙ not-false _ (c .if1 .left)
 
-byte : (c : tie.Else1 Inv-loop μ-loop) → (48 ≤ getD (now (c .before .before .before .before .before .before .args .s)) (c .before .before .before .before .loop .i) 0) × (getD (now (c .before .before .before .before .before .before .args .s)) (c .before .before .before .before .loop .i) 0 ≤ 57)
-byte c = byte-digit _ (digit c)
-
 small : (c : tie.Else1 Inv-loop μ-loop) → getD (now (c .before .before .before .before .before .before .args .s)) (c .before .before .before .before .loop .i) 0 - 48 < 10
-small c = omega (arith, byte c)
+small c = digit-small _ (digit c)
 
 loop-holds : tie.Need-loop-holds Inv-loop μ-loop
 loop-holds c = let e : c .before .args .from - c .before .args .from ≡ 0 = omega arith in (spelling-starts 0 (c .before .pre), rw e (omega arith), omega arith)
@@ -46,16 +45,16 @@ returns-2 : tie.Need-returns-2 Inv-loop μ-loop
 returns-2 c = c .before .before .before .before .before .before .before .loop .inv .0 .rest _ _ (rw (c .before .of-u64 .ensures) at (c .digits-on .ensures))
 
 mul-acc : tie.Need-mul-acc Inv-loop μ-loop
-mul-acc c = omega (arith, eighteen _ (c .before .before .before .before .before .loop .inv .1) (small (c .before)) (c .if2 .left))
+mul-acc c = record { fits = lt-of-le-of-lt (le-add-right _ _) (eighteen _ (c .before .before .before .before .before .loop .inv .1) (small (c .before)) (c .if2 .left)) }
 
 sub-acc : tie.Need-sub-acc Inv-loop μ-loop
-sub-acc c = byte (c .before) .0
+sub-acc c = byte-digit _ (digit (c .before)) .0
 
 cast-acc : tie.Need-cast-acc Inv-loop μ-loop
-cast-acc c = omega (arith, small (c .before))
+cast-acc c = record { fits = lt-of-lt-of-le (small (c .before)) (lit≤ tt) }
 
 add-acc : tie.Need-add-acc Inv-loop μ-loop
-add-acc c = omega (arith, eighteen _ (c .before .before .before .before .before .loop .inv .1) (small (c .before)) (c .if2 .left))
+add-acc c = record { fits = eighteen _ (c .before .before .before .before .before .loop .inv .1) (small (c .before)) (c .if2 .left) }
 
 loop-again : tie.Need-loop-again Inv-loop μ-loop
 loop-again c =

@@ -4,14 +4,16 @@ use borrow.Author.Tests.{not-true, not-false}
 use mathlib.Core.Path.{_≡_, refl, sym, _∙_}
 use mathlib.Core.Bool.{true}
 use native.Mathlib.Omega.{arith}
-use Prim.Native.Nat.{_-_, _^_, _≤_}
+use Prim.Native.Nat.{_-_, _^_}
+use native.Mathlib.Nat.{lt-of-lt-of-le}
+use lib.Dec.{lit≤}
 use lib.ListN.{length, getD}
 use denote.Ref.{now}
 use Rattle.meaning.specs.Reading.{isDigit}
 use Rattle.meaning.proofs.Numbers.{byte-digit}
 use Rattle.limbs.specs.Value.{value}
 use Rattle.limbs.proofs.Laws.{zero-carried, some-carried}
-use Rattle.limbs.proofs.Exponents.{Spelling, spelling-starts, spelling-goes-on, no-digit-at, too-large, spells-all}
+use Rattle.limbs.proofs.Exponents.{Spelling, spelling-starts, spelling-goes-on, no-digit-at, too-large, spells-all, digit-small}
 use Rattle.limbs.proofs.wide.digits_on.Statement.{statement}
 use Rattle.limbs.proofs.wide.digits_on.Tie as tie
 
@@ -23,9 +25,6 @@ abbrev μ-loop : tie.MeasureT-loop
 
 digit : (c : tie.Else1 Inv-loop μ-loop) → isDigit (getD (now (c .before .before .before .before .before .before .args .s)) (c .before .before .before .before .loop .i) 0) ≡ true
 digit c = sym (c .before .is-digit .ensures) ∙ not-false _ (c .if1 .left)
-
-byte : (c : tie.Else1 Inv-loop μ-loop) → (48 ≤ getD (now (c .before .before .before .before .before .before .args .s)) (c .before .before .before .before .loop .i) 0) × (getD (now (c .before .before .before .before .before .before .args .s)) (c .before .before .before .before .loop .i) 0 ≤ 57)
-byte c = byte-digit _ (digit c)
 
 loop-holds : tie.Need-loop-holds Inv-loop μ-loop
 loop-holds c = spelling-starts _ (c .before .pre)
@@ -39,10 +38,10 @@ returns c =
     (sym (c .before .before .is-digit .ensures) ∙ not-true _ (c .before .if1 .taken)) (c .bad .ensures))
 
 sub-multiply : tie.Need-sub-multiply Inv-loop μ-loop
-sub-multiply c = byte c .0
+sub-multiply c = byte-digit _ (digit c) .0
 
 cast-multiply : tie.Need-cast-multiply Inv-loop μ-loop
-cast-multiply c = omega (arith, byte c)
+cast-multiply c = record { fits = lt-of-lt-of-le (digit-small _ (digit c)) (lit≤ tt) }
 
 returns-2 : tie.Need-returns-2 Inv-loop μ-loop
 returns-2 c =

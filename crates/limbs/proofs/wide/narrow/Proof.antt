@@ -2,7 +2,7 @@ use borrow.Author.Needs.{needs}
 use mathlib.Core.Path.{_≡_, refl, _∙_}
 use native.Mathlib.Nat.{mod-eq-of-lt}
 use Rattle.limbs.specs.Value.{value}
-use Rattle.limbs.proofs.Counting.{is-below, is-not-below}
+use Rattle.limbs.proofs.Laws.{is-below, is-not-below}
 use Rattle.limbs.proofs.Shifts.{exact, saturated}
 use Rattle.limbs.proofs.wide.narrow.Statement.{statement}
 use Rattle.limbs.proofs.wide.narrow.Tie as tie
