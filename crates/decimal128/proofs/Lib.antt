@@ -1,3 +1,5 @@
 pub mod Laws
 pub mod Frames
 pub mod Answers
+pub mod Tight
+pub mod Demands

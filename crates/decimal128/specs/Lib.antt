@@ -1,2 +1,3 @@
 pub mod Operations
 pub mod Record
+pub mod Demand1
