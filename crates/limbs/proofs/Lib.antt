@@ -3,4 +3,3 @@ pub mod Rows
 pub mod Counting
 pub mod Exponents
 pub mod Shifts
-pub mod Steps

@@ -8,10 +8,12 @@ use lib.Dec.{eqb, ltb}
 use borrow.Author.Tests.{eq-eqb, ne-eqb, lt-ltb, le-ltb}
 use Rattle.meaning.specs.Decimal.{Decimal}
 use Rattle.meaning.specs.Decimal.Decimal.{nan, infinity, finite}
-use Rattle.meaning.specs.Layout.{orZero, decode, encode}
+use Rattle.meaning.specs.Layout.{orZero, stored, bytesOf, decode, encode}
 use Rattle.meaning.specs.Bits.{bits, bit, comesBackAs}
+use Rattle.meaning.specs.Answers.{numberGiven, bytesGiven}
 use Rattle.meaning.specs.Promises.{StoredComesBack, plainNan}
 use Rattle.meaning.proofs.Numbers.{le-or}
+use Rattle.meaning.proofs.Bytes.{sixteen-bytes-are-a-number}
 use Rattle.meaning.proofs.Fields.{Form, isNan, isInfinity, isSecond, isFirst, form, eq-or, decodes-nan, decodes-infinity, decodes-second, decodes-first, decodes-in-range, infinity-kept, first-kept}
 use Rattle.meaning.proofs.Round.{reads-what-was-written}
 
@@ -46,5 +48,8 @@ module _ (n : ℕ) (small : n < 2 ^ 128) where
       ]
 
 pub stored-comes-back : StoredComesBack
-stored-comes-back n small =
-    (plainNan (decode n), reads-what-was-written (decode n) (decodes-in-range n), stored-again n small)
+unfolding numberGiven bytesGiven
+stored-comes-back b e h =
+    let n = stored b in
+    let r = reads-what-was-written (decode n) (decodes-in-range n) in
+    (rw r, rw (r, stored-again n (sixteen-bytes-are-a-number b e h .0)))

@@ -6,12 +6,9 @@ use native.Mathlib.Nat.{pow-succ'}
 use native.Mathlib.Omega.{arith}
 use lib.ListN.{length, getD}
 use Rattle.meaning.specs.Layout.{stored, bytesOf}
+use Rattle.meaning.specs.Promises.{Bytes, SixteenBytesAreANumber, ANumberIsSixteenBytes}
 
--- every element is a byte
-abbrev pub Bytes : List ℕ → Type 0
-Bytes s = (i : ℕ) → getD s i 0 < 256
-
-pub bytes-of-stored : (s : List ℕ) → Bytes s → bytesOf (length s) (stored s) ≡ s
+bytes-of-stored : (s : List ℕ) → Bytes s → bytesOf (length s) (stored s) ≡ s
 unfolding bytesOf stored
 bytes-of-stored [] h = refl
 bytes-of-stored (b ∷ s) h =
@@ -20,13 +17,13 @@ bytes-of-stored (b ∷ s) h =
     let q : (b + 256 * stored s) / 256 ≡ stored s = omega arith in
     rw (p, q, bytes-of-stored s (λ i. h (suc i)))
 
-pub stored-of-bytes : (k n : ℕ) → n < 256 ^ k → stored (bytesOf k n) ≡ n
+stored-of-bytes : (k n : ℕ) → n < 256 ^ k → stored (bytesOf k n) ≡ n
 unfolding bytesOf stored
 stored-of-bytes zero n h = omega arith
 stored-of-bytes (suc k) n h =
     rw (stored-of-bytes k (n / 256) (let p : n < 256 * 256 ^ k = rw pow-succ' at h in omega arith)) (omega arith)
 
-pub stored-below : (s : List ℕ) → Bytes s → stored s < 256 ^ length s
+stored-below : (s : List ℕ) → Bytes s → stored s < 256 ^ length s
 unfolding stored
 stored-below [] h = omega arith
 stored-below (b ∷ s) h =
@@ -37,3 +34,9 @@ pub length-bytes-of : (k n : ℕ) → length (bytesOf k n) ≡ k
 unfolding bytesOf
 length-bytes-of zero n = refl
 length-bytes-of (suc k) n = ap suc (length-bytes-of k (n / 256))
+
+pub sixteen-bytes-are-a-number : SixteenBytesAreANumber
+sixteen-bytes-are-a-number b e h = (rw e at (stored-below b h), rw e at (bytes-of-stored b h))
+
+pub a-number-is-sixteen-bytes : ANumberIsSixteenBytes
+a-number-is-sixteen-bytes n h = (length-bytes-of 16 n, stored-of-bytes 16 n h)

@@ -86,11 +86,6 @@ module _ (b : ℕ) (r : List ℕ) (p : 46 ≤ b) (q : b ≤ 57) where
   unfolding step2 same bytes
   special g = simp (ne-eqb b 110 (λ e. omega arith), ne-eqb b 115 (λ e. omega arith), ne-eqb b 105 (λ e. omega arith))
 
--- the exponent part in lower case
-lowPower : Power → List ℕ
-lowPower noPower = []
-lowPower (power big s ds) = 101 ∷ signText s ++ ds
-
 start : (g : Sign) (d q : List ℕ) → 1 ≤ length d → Mid d → readText (signText g ++ (d ++ q)) ≡ step3 (negative g) (before 101 (d ++ map lower q)) (from 101 (d ++ map lower q))
 start g [] q l m = absurd (omega arith)
 start g (b ∷ r) q l m =

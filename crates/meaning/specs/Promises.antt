@@ -4,16 +4,17 @@ use mathlib.Core.Path.{_≡_}
 use mathlib.Core.Logic.{_⊎_, _↔_}
 use mathlib.Core.Bool.{Bool, true, false}
 use mathlib.Core.List.{List, _++_, map}
-use lib.ListN.{length}
+use lib.ListN.{length, getD}
 use Rattle.meaning.specs.Refusals.{Refusal, numberOf}
 use Rattle.meaning.specs.Refusals.Refusal.{overflow, inexactRounding}
 use Rattle.meaning.specs.Decimal.{Decimal, InRange}
 use Rattle.meaning.specs.Decimal.Decimal.{nan, infinity, finite}
-use Rattle.meaning.specs.Layout.{decode, encode}
+use Rattle.meaning.specs.Layout.{stored, bytesOf, decode, encode}
 use Rattle.meaning.specs.Bits.{decodeBits, canonical, comesBackAs}
 use Rattle.meaning.specs.Reading.{Reading, readText}
 use Rattle.meaning.specs.Reading.Reading.{refused, accepted}
 use Rattle.meaning.specs.Writing.{writeText, debugText}
+use Rattle.meaning.specs.Answers.{numberGiven, bytesGiven}
 use Rattle.meaning.specs.Stream.{lineRecord}
 use Rattle.meaning.specs.Rows.{Row, rows, rowOf}
 use Rattle.meaning.specs.Grammar.{Sign, FiniteText, Grammatical, Word, Storable, Kept, signText, negative, textOf, wholeOf}
@@ -29,6 +30,17 @@ DecodesWhatWasEncoded = (v : Decimal) → InRange v → decode (encode v) ≡ v
 
 abbrev pub EncodesExactlyTheCanonical : Type 0
 EncodesExactlyTheCanonical = (n : ℕ) → n < 2 ^ 128 → (encode (decode n) ≡ n) ↔ (canonical n ≡ true)
+
+-- every element is a byte
+abbrev pub Bytes : List ℕ → Type 0
+Bytes s = (i : ℕ) → getD s i 0 < 256
+
+-- 16 bytes are a number below 2^128, and are its bytes
+abbrev pub SixteenBytesAreANumber : Type 0
+SixteenBytesAreANumber = (b : List ℕ) → length b ≡ 16 → Bytes b → (stored b < 2 ^ 128) × (bytesOf 16 (stored b) ≡ b)
+
+abbrev pub ANumberIsSixteenBytes : Type 0
+ANumberIsSixteenBytes = (n : ℕ) → n < 2 ^ 128 → (length (bytesOf 16 n) ≡ 16) × (stored (bytesOf 16 n) ≡ n)
 
 -- ---- reading
 
@@ -90,9 +102,12 @@ plainNan (finite s e c) = finite s e c
 abbrev pub ReadsWhatWasWritten : Type 0
 ReadsWhatWasWritten = (v : Decimal) → InRange v → readText (writeText v) ≡ accepted (plainNan v)
 
--- the same of stored bytes, canonical or not: what the text of n reads as is stored as 01 says
+-- the same of stored bytes, canonical or not: what their text reads as is accepted, with the bytes that 01 says
 abbrev pub StoredComesBack : Type 0
-StoredComesBack = (n : ℕ) → n < 2 ^ 128 → (v : Decimal) × (readText (writeText (decode n)) ≡ accepted v) × (encode v ≡ comesBackAs n)
+StoredComesBack =
+    (b : List ℕ) → length b ≡ 16 → Bytes b →
+    (numberGiven (readText (writeText (decode (stored b)))) ≡ 0)
+    × (bytesGiven (readText (writeText (decode (stored b)))) ≡ bytesOf 16 (comesBackAs (stored b)))
 
 -- ---- the table of edges
 
