@@ -6,6 +6,8 @@ OPERATIONS = ["read", "write", "less", "to_dpd", "from_dpd", "to_double"]
 
 rows, classes = {}, []
 for line in open(sys.argv[1]):
+    if line.startswith("nop"):
+        continue
     peer, operation, kind, number = line.rstrip("\n").split("\t")
     rows.setdefault((OPERATIONS.index(operation), list(NAMES).index(peer)), {})[kind] = float(number)
     if kind not in classes:
