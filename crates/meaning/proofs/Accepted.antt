@@ -20,27 +20,13 @@ use Rattle.meaning.specs.Grammar.Fraction.{noPoint, point}
 use Rattle.meaning.specs.Grammar.Power.{noPower, power}
 use Rattle.meaning.specs.Grammar.Word.{isNan, isSnan, isInfinity, isInf}
 use Rattle.meaning.specs.Promises.{AcceptsOnlyTheGrammar, ReadsInRange}
-use Rattle.meaning.proofs.Numbers.{both, both-of, byte-digit}
+use Rattle.meaning.proofs.Numbers.{by-test, both, both-of, neither, neither-of, byte-digit}
 use Rattle.meaning.proofs.Stored.{Outcome, range}
 use Rattle.meaning.proofs.Grammar.{outcome}
-
--- ---- truth values
-
--- a test by its two outcomes
-by-test : {P : Type 0} (t : Bool) → (t ≡ true → P) → (t ≡ false → P) → P
-by-test true f g = f refl
-by-test false f g = g refl
 
 -- what is refused is not accepted
 never : {P : Type 0} {r : Refusal} {v : Decimal} → refused r ≡ accepted v → P
 never e = absurd (let z : _≡_ {A = ℕ} 0 1 = cc in omega arith)
-
-neither : (a b : Bool) → a ≡ false → b ≡ false → (a || b) ≡ false
-neither a b e f = simp (e, f)
-
-neither-of : (a b : Bool) → (a || b) ≡ false → (a ≡ false) × (b ≡ false)
-neither-of true b e = absurd (true≢false e)
-neither-of false b e = (refl, e)
 
 -- ---- an accepted run holds no point
 

@@ -12,9 +12,9 @@ use Rattle.meaning.specs.Layout.{orZero, stored, bytesOf, decode, encode
 use Rattle.meaning.specs.Bits.{bits, bit, comesBackAs}
 use Rattle.meaning.specs.Answers.{numberGiven, bytesGiven}
 use Rattle.meaning.specs.Promises.{StoredComesBack, plainNan}
-use Rattle.meaning.proofs.Numbers.{le-or}
+use Rattle.meaning.proofs.Numbers.{le-or, eq-or}
 use Rattle.meaning.proofs.Bytes.{sixteen-bytes-are-a-number}
-use Rattle.meaning.proofs.Fields.{Form, isNan, isInfinity, isSecond, isFirst, form, eq-or, decodes-nan, decodes-infinity, decodes-second, decodes-first, decodes-in-range, infinity-kept, first-kept}
+use Rattle.meaning.proofs.Fields.{Form, isNan, isInfinity, isSecond, isFirst, form, decodes-nan, decodes-infinity, decodes-second, decodes-first, decodes-in-range, infinity-kept, first-kept}
 use Rattle.meaning.proofs.Round.{reads-what-was-written}
 
 abbrev again : ℕ → ℕ

@@ -14,11 +14,7 @@ use Rattle.meaning.specs.Decimal.Decimal.{nan, infinity, finite}
 use Rattle.meaning.specs.Layout.{orZero, decode, encode, bitOf}
 use Rattle.meaning.specs.Bits.{bits, bit, special, second, decodeBits, canonical}
 use Rattle.meaning.specs.Promises.{TwoAccountsAgree, DecodesWhatWasEncoded, EncodesExactlyTheCanonical}
-use Rattle.meaning.proofs.Numbers.{le-or}
-
-pub eq-or : (a b : ℕ) → (a ≡ b) ⊎ (a ≡ b → ⊥)
-eq-or a b =
-    ⊎-elim (λ h. ⊎-elim (λ g. inl (omega arith)) (λ g. inr (λ e. omega arith)) (le-or b a)) (λ h. inr (λ e. omega arith)) (le-or a b)
+use Rattle.meaning.proofs.Numbers.{le-or, eq-or}
 
 -- ---- the standard's G and T are bits 1 to 17 and 18 to 127
 

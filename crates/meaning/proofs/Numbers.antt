@@ -16,6 +16,11 @@ use Rattle.meaning.specs.Reading.{number, allDigits, allZeros, stripZero
 
 -- ---- truth values
 
+-- a test by its two outcomes
+pub by-test : {P : Type 0} (t : Bool) → (t ≡ true → P) → (t ≡ false → P) → P
+by-test true f g = f refl
+by-test false f g = g refl
+
 pub both : (a b : Bool) → (a && b) ≡ true → (a ≡ true) × (b ≡ true)
 both true b e = (refl, e)
 both false b e = absurd (true≢false (sym e))
@@ -25,6 +30,16 @@ both-of a b e f = simp (e, f)
 
 pub le-or : (m n : ℕ) → (m ≤ n) ⊎ (n < m)
 le-or m n = elim (decLe m n) as (λ d. (m ≤ n) ⊎ (n < m)) [ yes h ↦ inl h | no h ↦ inr (omega (arith, h)) ]
+
+pub neither : (a b : Bool) → a ≡ false → b ≡ false → (a || b) ≡ false
+neither a b e f = simp (e, f)
+
+pub neither-of : (a b : Bool) → (a || b) ≡ false → (a ≡ false) × (b ≡ false)
+neither-of true b e = absurd (true≢false e)
+neither-of false b e = (refl, e)
+
+pub eq-or : (m n : ℕ) → (m ≡ n) ⊎ (m ≡ n → ⊥)
+eq-or m n = by-test (eqb m n) (λ e. inl (eqb-true m n e)) (λ e. inr (eqb-false m n e))
 
 pub byte-digit : (b : ℕ) → isDigit b ≡ true → (48 ≤ b) × (b ≤ 57)
 byte-digit b e = let p = both (leb 48 b) (leb b 57) e in (leb-true 48 b (p .0), leb-true b 57 (p .1))

@@ -1,22 +1,45 @@
--- Steps 8 and 9 in place: what is cut from the run and what is kept of it are runs themselves.
+-- Steps 7 to 9 in place: what is cut from the run and what is kept of it are runs themselves.
 use mathlib.Core.Path.{_≡_, refl, sym, ap, _∙_}
-use mathlib.Core.Bool.{Bool, true, false, cond}
+use mathlib.Core.Bool.{Bool, cond}
 use mathlib.Core.List.{List, [], _∷_, _++_}
-use Prim.Native.Nat.{ℕ, _+_, _-_, _*_, _^_, _≤_, _<_, min, max}
+use Prim.Native.Nat.{ℕ, _+_, _-_, _*_, _≤_, _<_, min, max}
 use native.Mathlib.Omega.{arith}
-use lib.ListN.{length, take, drop, replicate}
+use lib.ListN.{length, take, replicate}
 use lib.Seq.{length-take-le}
 use Rattle.meaning.specs.Reading.{Reading, low, high, allZeros, kept, lost, step7, step8, step9, step11}
 use Rattle.meaning.specs.Reading.Reading.{refused, accepted}
 use Rattle.meaning.specs.Decimal.Decimal.{finite}
 use Rattle.meaning.specs.Refusals.Refusal.{overflow, inexactRounding}
-use Rattle.reading.specs.declared.scan.Spans.{Spans}
 use Rattle.limbs.specs.declared.wide.Stand.{Stand}
-use Rattle.limbs.specs.declared.wide.Shift.{Shift}
-use Rattle.limbs.specs.Wide.{Sized, Stands, Raised, standAt}
+use Rattle.limbs.specs.Wide.{standAt}
 use Rattle.reading.specs.Run.{run, counted, Offset}
 use Rattle.reading.proofs.Walk.{length-run, run-within, run-first, run-rest}
 use Rattle.reading.proofs.Steps.{step9-below, step9-above, step9-left, step8-left, nearest-most, nearest-in, not-under, not-over}
+
+-- ---- where x stands
+
+module _ (n : ℕ) (q : Stand) (e : q ≡ standAt n) where
+  below-is : q .below ≡ min 35 (low - n)
+  unfolding standAt
+  below-is = ap (λ (x : Stand). x .below) e
+
+  above-is : q .above ≡ min 35 (n - high)
+  unfolding standAt
+  above-is = ap (λ (x : Stand). x .above) e
+
+  field-is : q .field ≡ min (max n low) high - low
+  unfolding standAt
+  field-is = ap (λ (x : Stand). x .field) e
+
+  pub field-most : q .field ≤ 12287
+  field-most = rw field-is (nearest-most n)
+
+  pub stands-in : q .below ≡ 0 → q .above ≡ 0 → (low ≤ n) × (n ≤ high) × (q .field ≡ n - low)
+  stands-in b a =
+      let l = not-under (sym below-is ∙ b) in
+      let h = not-over (sym above-is ∙ a) in (l, h, field-is ∙ nearest-in l h)
+
+-- ---- sizes
 
 min-most : (a b k : ℕ) → k ≡ min a b → k ≤ a
 min-most a b k e = omega arith
@@ -31,15 +54,17 @@ sum-fits h e p q r = omega arith
 pub run-short : (p i t : ℕ) (s : List ℕ) → i ≤ t → t ≤ length s → length (run p i t s) ≤ t - i
 run-short p i t s h l = rw (length-run p i t s h l) (counted-most p i t)
 
+-- ---- step 9 in place, of the first `count` bytes of the run
+
 module _ (p i t : ℕ) (s : List ℕ) (h : i ≤ t) (l : t ≤ length s) (count : ℕ) (m : count ≤ length (run p i t s)) where
-  pub cut-length : length (take count (run p i t s)) ≡ count
+  cut-length : length (take count (run p i t s)) ≡ count
   cut-length = length-take-le count (run p i t s) m
 
   module _ (end b cut : ℕ) (oe : Offset p i count end) (oc : Offset p i (count - b) cut) where
     pub end-within : end ≤ t
     end-within = run-within p i count end t s oe h l m
 
-    pub end-run : take count (run p i t s) ≡ run p i end s
+    end-run : take count (run p i t s) ≡ run p i end s
     end-run = run-first p i count end t s oe h l m
 
     end-length : length (run p i end s) ≡ count
@@ -66,52 +91,26 @@ module _ (p i t : ℕ) (s : List ℕ) (h : i ≤ t) (l : t ≤ length s) (count 
     -- steps 9 and 10, where x stands as q says
     module _ (g : Bool) (n : ℕ) (q : Stand) (e : q ≡ standAt n) (few : count ≤ 34) (eb : b ≡ q .below) (hb : b ≤ count) (ha : count + q .above ≤ 34) where
       pub placed-left : step9 g n (take count (run p i t s)) ≡ cond (allZeros (run p cut end s)) (step11 g (low + q .field) (run p i cut s ++ replicate (q .above) 48)) (refused inexactRounding)
-      unfolding standAt
       placed-left =
           rw (end-run, ← kept-run, ← lost-run)
-          (step9-left g n (run p i end s) (omega (arith, end-length)) b (q .above) (q .field) (eb ∙ ap (λ (x : Stand). x .below) e) (ap (λ (x : Stand). x .above) e) (ap (λ (x : Stand). x .field) e) (omega (arith, end-length)) (omega (arith, end-length)))
+          (step9-left g n (run p i end s) (rw end-length few) b (q .above) (q .field) (eb ∙ below-is n q e) (above-is n q e) (field-is n q e) (rw end-length hb) (rw end-length ha))
 
   -- x stands too far from the range for the run
   module _ (g : Bool) (n : ℕ) (q : Stand) (e : q ≡ standAt n) (few : count ≤ 34) where
     pub placed-below : count < q .below → step9 g n (take count (run p i t s)) ≡ refused overflow
-    unfolding standAt
     placed-below k =
-        step9-below g n (take count (run p i t s)) (rw cut-length few) (rw (cut-length, ← ap (λ (x : Stand). x .below) e) k)
+        step9-below g n (take count (run p i t s)) (rw cut-length few) (rw (cut-length, ← below-is n q e) k)
 
     pub placed-above : 34 < count + q .above → step9 g n (take count (run p i t s)) ≡ refused overflow
-    unfolding standAt
     placed-above k =
-        step9-above g n (take count (run p i t s)) (rw cut-length few) (rw (cut-length, ← ap (λ (x : Stand). x .above) e) k)
+        step9-above g n (take count (run p i t s)) (rw cut-length few) (rw (cut-length, ← above-is n q e) k)
 
--- the field is always one of the format's
-pub field-most : (n : ℕ) (q : Stand) → q ≡ standAt n → q .field ≤ 12287
-unfolding standAt
-field-most n q e = rw (ap (λ (x : Stand). x .field) e) (nearest-most n)
+-- ---- step 7: nothing is left of the run, or something
 
--- in range
-pub stands-in : (n : ℕ) (q : Stand) → q ≡ standAt n → q .below ≡ 0 → q .above ≡ 0 → (low ≤ n) × (n ≤ high) × (q .field ≡ n - low)
-unfolding standAt
-stands-in n q e b a =
-    let eb = sym (ap (λ (x : Stand). x .below) e) ∙ b in
-    let ea = sym (ap (λ (x : Stand). x .above) e) ∙ a in
-    let l = not-under eb in
-    let h = not-over ea in
-    (l, h, ap (λ (x : Stand). x .field) e ∙ nearest-in l h)
-
--- an exponent as step 6 leaves it is one as step 8 may
-pub stands-raised : (n : ℕ) (x : Shift) → Stands n x → Raised n x
-unfolding Sized
-stands-raised n x h = go (x .negative) h
-  where
-    go : (t : Bool) → Sized (2 ^ 64 - 1) n t (x .size) → Sized (2 ^ 63) n t (x .size)
-    go true q = (q .0, λ l. q .1 (omega arith))
-    go false q = (q .0, λ l. q .1 (omega arith))
-
--- step 7: nothing is left of the run, or something
 module _ (g : Bool) (n : ℕ) where
   pub step7-none : (run : List ℕ) (q : Stand) → length run ≡ 0 → q ≡ standAt n → step7 g n run ≡ accepted (finite g (q .field) 0)
-  unfolding step7 standAt
-  step7-none [] q l e = rw (ap (λ (x : Stand). x .field) e)
+  unfolding step7
+  step7-none [] q l e = rw (field-is n q e)
   step7-none (b ∷ s) q l e = absurd (omega arith)
 
   pub step7-some : (run : List ℕ) → (length run ≡ 0 → ⊥) → step7 g n run ≡ step8 g n run
@@ -119,7 +118,8 @@ module _ (g : Bool) (n : ℕ) where
   step7-some [] l = absurd (l refl)
   step7-some (b ∷ s) l = refl
 
--- step 8 in place
+-- ---- step 8 in place
+
 module _ (p i t : ℕ) (s : List ℕ) (h : i ≤ t) (l : t ≤ length s) (count keep end : ℕ) (ec : count ≡ counted p i t) (ek : keep ≡ min count 34) (o : Offset p i keep end) where
   all : count ≡ length (run p i t s)
   all = ec ∙ sym (length-run p i t s h l)

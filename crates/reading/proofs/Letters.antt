@@ -1,22 +1,21 @@
 -- The letters of a text: the special words of step 2, and the first `e` of step 3.
-use mathlib.Core.Path.{_≡_, refl, sym, ap, _∙_}
-use mathlib.Core.Logic.{_⊎_, inl, inr, ⊎-elim}
+use mathlib.Core.Path.{_≡_, refl, ap, _∙_}
+use mathlib.Core.Logic.{⊎-elim}
 use mathlib.Core.Bool.{Bool, true, false, _&&_, _||_, cond, and-false}
-use mathlib.Core.List.{List, [], _∷_, _++_, map}
-use Prim.Native.Nat.{ℕ, zero, suc, _+_, _-_, _≤_, _<_}
+use mathlib.Core.List.{List, [], _∷_, map}
+use Prim.Native.Nat.{ℕ, suc, _+_, _-_, _≤_, _<_}
 use native.Mathlib.Omega.{arith}
-use lib.Dec.{eqb, leb}
-use lib.ListN.{length, getD, take, drop, length-drop, drop-of-length-le, length-map}
-use lib.Seq.{take-all, drop-cons}
-use borrow.Author.Tests.{eq-eqb, ne-eqb, eqb-true, eqb-false, le-leb, lt-leb}
+use lib.Dec.{eqb}
+use lib.ListN.{length, getD, drop, drop-of-length-le}
+use borrow.Author.Tests.{ne-eqb}
 use Rattle.meaning.specs.Reading.{Reading, lower, bytes, same, before, from, decimalPart, step2, step3, step4, readText}
 use Rattle.meaning.specs.Refusals.Refusal.{unparseable}
 use Rattle.meaning.specs.Reading.Reading.{refused, accepted}
 use Rattle.meaning.specs.Decimal.Decimal.{nan, infinity}
 use Rattle.reading.specs.Scan.{isPlain, decimals, firstAt}
 use Rattle.reading.specs.Split.{startOf}
-use Rattle.reading.proofs.Pass.{drop-step, first-here, first-later}
-use Rattle.reading.proofs.Split.{plain-below, plain-lower}
+use Rattle.reading.proofs.Bytes.{true-or, drop-step, plain-below, decimals-none, first-here, first-later}
+use Rattle.reading.proofs.Lower.{plain-lower}
 
 -- ---- words
 
@@ -27,14 +26,16 @@ same-other-length [] (y ∷ t) h = refl
 same-other-length (x ∷ s) [] h = refl
 same-other-length (x ∷ s) (y ∷ t) h = rw (same-other-length s t (λ e. h (ap suc e))) (and-false (eqb (lower x) y))
 
-module _ (s t : List ℕ) (i : ℕ) (h : i < length s) (k : i < length t) where
-  pub same-step : same (map lower (drop i s)) (drop i t) ≡ (eqb (lower (getD s i 0)) (getD t i 0) && same (map lower (drop (i + 1) s)) (drop (i + 1) t))
+-- the first i bytes of the text from start on are those of the word
+module _ (s : List ℕ) (start : ℕ) (w : List ℕ) (i : ℕ) where
+  pub same-step : start + i < length s → i < length w → same (map lower (drop (start + i) s)) (drop i w) ≡ (eqb (lower (getD s (start + i) 0)) (getD w i 0) && same (map lower (drop (start + (i + 1)) s)) (drop (i + 1) w))
   unfolding same
-  same-step = rw (drop-step s i h, drop-step t i k)
+  same-step h k =
+      let e : start + i + 1 ≡ start + (i + 1) = omega arith in rw (drop-step s (start + i) h, drop-step w i k, e)
 
-pub same-end : (s t : List ℕ) (i : ℕ) → length s ≤ i → length t ≤ i → same (map lower (drop i s)) (drop i t) ≡ true
-unfolding same
-same-end s t i h k = rw (drop-of-length-le s h, drop-of-length-le t k)
+  pub same-end : length s ≤ start + i → length w ≤ i → same (map lower (drop (start + i) s)) (drop i w) ≡ true
+  unfolding same
+  same-end h k = rw (drop-of-length-le s h, drop-of-length-le w k)
 
 -- ---- the first `e`
 
@@ -50,9 +51,6 @@ unfolding firstAt
 e-none s n i h = rw (drop-of-length-le s h)
 
 -- ---- step 2
-
-pub tail-all : (a : ℕ) (s : List ℕ) → take (length s - a) (drop a s) ≡ drop a s
-tail-all a s = take-all (length s - a) (drop a s) (omega (arith, length-drop a s))
 
 module _ (g : Bool) (t : List ℕ) where
   pub nan-is : same t (110 ∷ 97 ∷ 110 ∷ []) ≡ true → step2 g t ≡ accepted (nan g false)
@@ -83,16 +81,15 @@ unfolding same
 other-word x y s t h = rw (ne-eqb x y (λ e. omega arith))
 
 pub no-word : (g : Bool) (l : List ℕ) → (length (decimals l) ≡ 0 → ⊥) → step2 g (map lower l) ≡ step3 g (before 101 (map lower l)) (from 101 (map lower l))
-unfolding decimals
-no-word g [] n = absurd (n refl)
-no-word g (x ∷ l) n = go (isPlain x) refl n
-  where
-    go : (t : Bool) → isPlain x ≡ t → (length (cond t (x ∷ decimals l) []) ≡ 0 → ⊥) → step2 g (map lower (x ∷ l)) ≡ step3 g (before 101 (map lower (x ∷ l))) (from 101 (map lower (x ∷ l)))
-    go false e m = absurd (m refl)
-    go true e m =
-        let b = plain-below x e in
-        rw (plain-lower x e)
-        (number-is g (x ∷ map lower l) (other-word x 110 _ _ (omega arith)) (other-word x 115 _ _ (omega arith)) (other-word x 105 _ _ (omega arith)) (other-word x 105 _ _ (omega arith)))
+no-word g [] n = unfold decimals in absurd (n refl)
+no-word g (x ∷ l) n =
+    ⊎-elim
+    (λ e.
+    let b = plain-below x e in
+    rw (plain-lower x e)
+    (number-is g (x ∷ map lower l) (other-word x 110 _ _ (omega arith)) (other-word x 115 _ _ (omega arith)) (other-word x 105 _ _ (omega arith)) (other-word x 105 _ _ (omega arith))))
+    (λ e. absurd (n (ap length (decimals-none x l e))))
+    (true-or (isPlain x))
 
 pub no-length : (l : List ℕ) → length l ≡ 0 → l ≡ []
 no-length [] e = refl
@@ -105,19 +102,19 @@ unfolding readText step2 step3 step4 decimalPart before from same bytes
 read-empty [] e = refl
 read-empty (x ∷ s) e = absurd (omega arith)
 
-pub read-start : (s : List ℕ) → 0 < length s → readText s ≡ step2 (eqb (getD s 0 0) 45) (map lower (drop (startOf (getD s 0 0)) s))
+signed : (s : List ℕ) → 0 < length s → readText s ≡ step2 (eqb (getD s 0 0) 45) (map lower (drop (startOf (getD s 0 0)) s))
 unfolding readText
-read-start [] h = absurd (omega arith)
-read-start (b ∷ s) h = go (eqb b 45) (eqb b 43)
+signed [] h = absurd (omega arith)
+signed (b ∷ s) h = go (eqb b 45) (eqb b 43)
   where
     go : (t u : Bool) → cond t (step2 true (map lower s)) (cond u (step2 false (map lower s)) (step2 false (map lower (b ∷ s)))) ≡ step2 t (map lower (drop (cond (t || u) 1 0) (b ∷ s)))
     go true u = refl
     go false true = refl
     go false false = refl
 
-pub start-within : (s : List ℕ) (b : ℕ) → 0 < length s → startOf b ≤ length s
-start-within s b h = go (eqb b 45 || eqb b 43)
-  where
-    go : (t : Bool) → cond t 1 0 ≤ length s
-    go true = h
-    go false = omega arith
+module _ (s : List ℕ) (h : 0 < length s) (r : ℕ) (e : r ≡ startOf (getD s 0 0)) where
+  pub start-within : r ≤ length s
+  start-within = rw e (⊎-elim (λ q. rw q h) (λ q. rw q (omega arith)) (true-or (eqb (getD s 0 0) 45 || eqb (getD s 0 0) 43)))
+
+  pub read-start : readText s ≡ step2 (eqb (getD s 0 0) 45) (map lower (drop r s))
+  read-start = signed s h ∙ rw e

@@ -1,3 +1,4 @@
+pub mod Bytes
 pub mod Pass
 pub mod Walk
 pub mod Letters

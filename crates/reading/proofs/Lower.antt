@@ -1,4 +1,4 @@
--- An exponent reads the same with its letters in lower case, which are no signs and no digits.
+-- Letters in lower case are no digits, signs or points, so a decimal part and an exponent read the same with them.
 use mathlib.Core.Path.{_≡_, refl, sym, ap, _∙_}
 use mathlib.Core.Logic.{_⊎_, inl, inr, ⊎-elim}
 use mathlib.Core.Bool.{Bool, true, false, _&&_, cond}
@@ -9,6 +9,8 @@ use lib.Dec.{eqb, leb}
 use borrow.Author.Tests.{ne-eqb, le-leb, lt-leb, leb-true}
 use Rattle.meaning.specs.Reading.{isDigit, lower, allDigits, someDigits, upward, downward, exponent, Written}
 use Rattle.meaning.proofs.Numbers.{both, byte-digit}
+use Rattle.reading.specs.Scan.{isPlain}
+use Rattle.reading.proofs.Bytes.{true-or, plain-below}
 
 -- a byte is left as it is, or it is a letter, before and after
 lower-or : (b : ℕ) → (lower b ≡ b) ⊎ ((58 ≤ b) × (58 ≤ lower b))
@@ -19,6 +21,16 @@ lower-or b = go (leb 65 b) (leb b 90) refl
     go true false h = inl refl
     go false true h = inl refl
     go false false h = inl refl
+
+pub plain-lower : (b : ℕ) → isPlain b ≡ true → lower b ≡ b
+plain-lower b e = ⊎-elim (λ q. q) (λ h. absurd (omega (arith, h .0, plain-below b e))) (lower-or b)
+
+pub lower-plain : (b : ℕ) → isPlain b ≡ false → isPlain (lower b) ≡ false
+lower-plain b e =
+    ⊎-elim
+    (λ q. ap isPlain q ∙ e)
+    (λ h. ⊎-elim (λ p. absurd (omega (arith, h .1, plain-below (lower b) p))) (λ p. p) (true-or (isPlain (lower b))))
+    (lower-or b)
 
 no-digit : (b : ℕ) → 58 ≤ b → isDigit b ≡ false
 no-digit b h = simp (lt-leb b 57 h, le-leb 48 b (omega arith))
@@ -61,11 +73,11 @@ some-all (b ∷ s) e = e
 -- what follows from a run of digits, and is the same wherever there is none
 module _ (f : List ℕ → Written) (none : (s t : List ℕ) → someDigits s ≡ false → someDigits t ≡ false → f s ≡ f t) where
   read-lower : (s : List ℕ) → f (map lower s) ≡ f s
-  read-lower s = go (someDigits s) refl
-    where
-      go : (t : Bool) → someDigits s ≡ t → f (map lower s) ≡ f s
-      go true e = ap f (digits-same s (some-all s e))
-      go false e = none (map lower s) s (some-lower s ∙ e) e
+  read-lower s =
+      ⊎-elim
+      (λ e. ap f (digits-same s (some-all s e)))
+      (λ e. none (map lower s) s (some-lower s ∙ e) e)
+      (true-or (someDigits s))
 
 upward-lower : (s : List ℕ) → upward (map lower s) ≡ upward s
 upward-lower = read-lower upward (λ s t p q. simp (p, q))

@@ -1,10 +1,11 @@
 -- `named` and `numberOf` are each other's inverse.
-use mathlib.Core.Path.{_≡_, refl, sym, ap, _∙_}
-use Prim.Native.Nat.{ℕ, _≤_, _<_}
+use mathlib.Core.Path.{_≡_, refl}
+use Prim.Native.Nat.{ℕ, zero, suc, _≤_, _<_}
+use native.Mathlib.Omega.{arith}
+use lib.Dec.{lit<}
 use Rattle.meaning.specs.Refusals.{Refusal, numberOf}
 use Rattle.meaning.specs.Refusals.Refusal.{emptyExponent, invalidExponent, invalidCoefficient, overflow, underflow, inexactRounding, unparseable, malformedBytes, noRoom, lineTooLong}
 use Rattle.reading.specs.Told.{named}
-use lib.Dec.{lit<}
 
 pub name-of : (r : Refusal) → named (numberOf r) ≡ r
 unfolding named numberOf
@@ -18,6 +19,21 @@ name-of unparseable = refl
 name-of malformedBytes = refl
 name-of noRoom = refl
 name-of lineTooLong = refl
+
+pub number-of : (n : ℕ) → 0 < n → n ≤ 10 → numberOf (named n) ≡ n
+unfolding named numberOf
+number-of zero h l = absurd (omega arith)
+number-of (suc zero) h l = refl
+number-of (suc (suc zero)) h l = refl
+number-of (suc (suc (suc zero))) h l = refl
+number-of (suc (suc (suc (suc zero)))) h l = refl
+number-of (suc (suc (suc (suc (suc zero))))) h l = refl
+number-of (suc (suc (suc (suc (suc (suc zero)))))) h l = refl
+number-of (suc (suc (suc (suc (suc (suc (suc zero))))))) h l = refl
+number-of (suc (suc (suc (suc (suc (suc (suc (suc zero)))))))) h l = refl
+number-of (suc (suc (suc (suc (suc (suc (suc (suc (suc zero))))))))) h l = refl
+number-of (suc (suc (suc (suc (suc (suc (suc (suc (suc (suc zero)))))))))) h l = refl
+number-of (suc (suc (suc (suc (suc (suc (suc (suc (suc (suc (suc n))))))))))) h l = absurd (omega arith)
 
 -- no refusal has the number 0
 pub number-some : (r : Refusal) → 0 < numberOf r

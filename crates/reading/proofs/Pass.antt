@@ -1,97 +1,36 @@
 -- One step of the pass over the decimal part, its start and its end.
 use mathlib.Core.Path.{_≡_, refl, sym, ap, _∙_}
 use mathlib.Core.Logic.{_⊎_, inl, inr, ⊎-elim}
-use mathlib.Core.Bool.{Bool, true, false, cond, _&&_, _||_}
+use mathlib.Core.Bool.{true, cond}
 use mathlib.Core.List.{List, [], _∷_, _++_}
 use Prim.Native.Nat.{ℕ, zero, suc, _+_, _-_, _*_, _^_, _≤_, _<_, min}
 use native.Mathlib.Nat.{pow-suc, sub-self, pow-zero, lt-of-lt-of-le}
-use native.Mathlib.Numerals.{add-one}
 use native.Mathlib.Omega.{arith}
-use lib.Dec.{eqb, leb}
-use lib.ListN.{length, getD, take, drop, drop-of-length-le}
-use lib.Seq.{slice, slice-empty, drop-cons, take-suc, drop-append-le, length-take-le}
-use borrow.Author.Tests.{eq-eqb, ne-eqb, le-leb, lt-leb}
+use lib.Dec.{eqb}
+use lib.ListN.{length, getD, drop, drop-of-length-le}
+use lib.Seq.{slice, slice-empty}
+use borrow.Author.Tests.{ne-eqb}
 use Rattle.meaning.specs.Reading.{isDigit, number}
-use Rattle.meaning.proofs.Numbers.{le-or, byte-digit, number-append, pow-le}
+use Rattle.meaning.proofs.Numbers.{le-or, byte-digit, number-append, pow-le, eq-or}
 use Rattle.reading.specs.declared.scan.Found.{Found}
 use Rattle.reading.specs.declared.scan.Spans.{Spans}
 use Rattle.reading.specs.Scan.{isPlain, decimals, firstAt, secondAt, points, unpointed, withDigit, withPoint, Passing, Added, Stopped, Scanned}
-
--- ---- a list at an offset
-
-pub drop-step : (s : List ℕ) (i : ℕ) → i < length s → drop i s ≡ getD s i 0 ∷ drop (i + 1) s
-drop-step s i h = rw (add-one, drop-cons s i 0)
-
-pub slice-more : (s : List ℕ) (f t : ℕ) → f ≤ t → t < length s → slice f (t + 1) s ≡ slice f t s ++ (getD s t 0 ∷ [])
-slice-more s f t h l =
-    let q : f ≤ length (take t s) = omega (arith, length-take-le t s (omega arith)) in rw (add-one, take-suc s t 0, drop-append-le f)
-
--- ---- bytes
-
-pub digit-plain : (b : ℕ) → isDigit b ≡ true → isPlain b ≡ true
-digit-plain b e = simp e
-
-pub digit-no-point : (b : ℕ) → isDigit b ≡ true → b ≡ 46 → ⊥
-digit-no-point b e q = let d = byte-digit b e in omega arith
-
-pub point-plain : (b : ℕ) → b ≡ 46 → isPlain b ≡ true
-point-plain b e = rw e
-
-pub neither : (b : ℕ) → isDigit b ≡ false → (b ≡ 46 → ⊥) → isPlain b ≡ false
-neither b d q = simp (d, ne-eqb b 46 q)
+use Rattle.reading.proofs.Bytes.{cond-same, drop-step, slice-more, digit-plain, point-plain, digit-no-point, decimals-more, decimals-none, points-more, points-same, unpointed-less, unpointed-more, first-here, first-later, second-next, second-later}
 
 -- ---- the decimal part
 
-pub decimals-plain : (s : List ℕ) (i : ℕ) → i < length s → isPlain (getD s i 0) ≡ true → decimals (drop i s) ≡ getD s i 0 ∷ decimals (drop (i + 1) s)
-unfolding decimals
-decimals-plain s i h e = rw (drop-step s i h) (simp e)
+decimals-plain : (s : List ℕ) (i : ℕ) → i < length s → isPlain (getD s i 0) ≡ true → decimals (drop i s) ≡ getD s i 0 ∷ decimals (drop (i + 1) s)
+decimals-plain s i h e = rw (drop-step s i h) (decimals-more (getD s i 0) (drop (i + 1) s) e)
 
-pub decimals-stop : (s : List ℕ) (i : ℕ) → Stopped s i → decimals (drop i s) ≡ []
+decimals-stop : (s : List ℕ) (i : ℕ) → Stopped s i → decimals (drop i s) ≡ []
 unfolding decimals
 decimals-stop s i (inl l) = rw (drop-of-length-le s l)
 decimals-stop s i (inr e) =
-    ⊎-elim (λ l. rw (drop-of-length-le s l)) (λ h. rw (drop-step s i h) (simp e)) (le-or (length s) i)
-
--- ---- where the points are, a byte at a time
-
-module _ (b n i x : ℕ) (s : List ℕ) where
-  pub first-here : x ≡ b → firstAt b n i (x ∷ s) ≡ i
-  unfolding firstAt
-  first-here e = simp (eq-eqb x b e)
-
-  pub first-later : (x ≡ b → ⊥) → firstAt b n i (x ∷ s) ≡ firstAt b n (i + 1) s
-  unfolding firstAt
-  first-later e = simp (ne-eqb x b e)
-
-module _ (n i x : ℕ) (s : List ℕ) where
-  pub second-next : x ≡ 46 → secondAt n i (x ∷ s) ≡ firstAt 46 n (i + 1) s
-  unfolding secondAt
-  second-next e = simp (eq-eqb x 46 e)
-
-  pub second-later : (x ≡ 46 → ⊥) → secondAt n i (x ∷ s) ≡ secondAt n (i + 1) s
-  unfolding secondAt
-  second-later e = simp (ne-eqb x 46 e)
-
-module _ (x : ℕ) (s : List ℕ) where
-  pub points-more : x ≡ 46 → points (x ∷ s) ≡ 1 + points s
-  unfolding points
-  points-more e = simp (eq-eqb x 46 e)
-
-  pub points-same : (x ≡ 46 → ⊥) → points (x ∷ s) ≡ points s
-  unfolding points
-  points-same e = simp (ne-eqb x 46 e)
-
-  pub unpointed-less : x ≡ 46 → unpointed (x ∷ s) ≡ unpointed s
-  unfolding unpointed
-  unpointed-less e = simp (eq-eqb x 46 e)
-
-  pub unpointed-more : (x ≡ 46 → ⊥) → unpointed (x ∷ s) ≡ x ∷ unpointed s
-  unfolding unpointed
-  unpointed-more e = simp (ne-eqb x 46 e)
+    ⊎-elim (λ l. rw (drop-of-length-le s l)) (λ h. rw (drop-step s i h) (decimals-none (getD s i 0) (drop (i + 1) s) e)) (le-or (length s) i)
 
 -- ---- the pass
 
-abbrev pub fresh : ℕ → Found
+abbrev fresh : ℕ → Found
 fresh n = record { point = n; second = n; points = 0; value = 0 }
 
 pub passing-none : (s : List ℕ) (start : ℕ) → start ≤ length s → Passing s start start (fresh (length s))
@@ -136,10 +75,6 @@ module _ (s : List ℕ) (start i : ℕ) (m : Found) (p : Passing s start i m) (h
         second = second-after (m .points) i (m .second) l ∙ (rw (e, second-next (m .second) i b l d, first-here 46 (m .second) i b l d) at (p .second));
       }
 
-cond-same : {A : Type 0} (t : Bool) (a : A) → cond t a a ≡ a
-cond-same true a = refl
-cond-same false a = refl
-
 -- what a pass has found where it ends
 pub record Ended (s : List ℕ) (start i : ℕ) (m : Found) : Type 0 where
   pub stop : i ≡ start + length (decimals (drop start s))
@@ -147,7 +82,7 @@ pub record Ended (s : List ℕ) (start i : ℕ) (m : Found) : Type 0 where
   pub point : m .point ≡ firstAt 46 (length s) start (decimals (drop start s))
   pub second : m .second ≡ secondAt (length s) start (decimals (drop start s))
 
-pub passing-end : (s : List ℕ) (start i : ℕ) (m : Found) → Passing s start i m → Stopped s i → Ended s start i m
+passing-end : (s : List ℕ) (start i : ℕ) (m : Found) → Passing s start i m → Stopped s i → Ended s start i m
 unfolding firstAt secondAt points
 passing-end s start i m p t =
     let e = decimals-stop s i t in
@@ -163,14 +98,13 @@ passing-end s start i m p t =
 
 -- ---- the value of the first bytes
 
-pub unpointed-append : (a b : List ℕ) → unpointed (a ++ b) ≡ unpointed a ++ unpointed b
-unfolding unpointed
-unpointed-append [] b = refl
-unpointed-append (x ∷ a) b = go (eqb x 46) (unpointed-append a b)
-  where
-    go : (t : Bool) → unpointed (a ++ b) ≡ unpointed a ++ unpointed b → cond t (unpointed (a ++ b)) (x ∷ unpointed (a ++ b)) ≡ cond t (unpointed a) (x ∷ unpointed a) ++ unpointed b
-    go true e = e
-    go false e = ap (λ (l : List ℕ). x ∷ l) e
+unpointed-append : (a b : List ℕ) → unpointed (a ++ b) ≡ unpointed a ++ unpointed b
+unpointed-append [] b = unfold unpointed in refl
+unpointed-append (x ∷ a) b =
+    ⊎-elim
+    (λ e. rw (unpointed-less x (a ++ b) e, unpointed-less x a e) (unpointed-append a b))
+    (λ e. rw (unpointed-more x (a ++ b) e, unpointed-more x a e, unpointed-append a b))
+    (eq-or x 46)
 
 pub more-digits : (v b n k : ℕ) → v < 10 ^ n → b ≤ 57 → k ≡ suc n → v * 10 + (b - 48) < 10 ^ k
 more-digits v b n k h l e = rw e (omega (arith, pow-suc 10 n))

@@ -1,43 +1,25 @@
 -- The points of the run: what the pass has found of them, carried to every part of it.
 use mathlib.Core.Path.{_≡_, refl, sym, ap, _∙_}
-use mathlib.Core.Logic.{_⊎_, inl, inr, ⊎-elim}
-use mathlib.Core.Bool.{Bool, true, false, _&&_, _||_, cond, true≢false}
+use mathlib.Core.Logic.{_⊎_, ⊎-elim}
+use mathlib.Core.Bool.{true, false, true≢false}
 use mathlib.Core.List.{List, [], _∷_, _++_}
 use Prim.Native.Nat.{ℕ, zero, suc, _+_, _-_, _^_, _≤_, _<_, min}
 use native.Mathlib.Nat.{lt-of-lt-of-le}
 use native.Mathlib.Omega.{arith}
-use lib.Dec.{eqb, leb, ltb}
-use lib.ListN.{length, getD, take, drop, length-append, length-drop}
-use lib.Seq.{slice, take-all, take-take}
-use borrow.Author.Tests.{eq-eqb, ne-eqb, eqb-true, eqb-false, le-ltb, lt-ltb}
-use Rattle.meaning.specs.Reading.{isDigit, number, allDigits, allZeros, stripZeros, holds, before, fraction}
-use Rattle.meaning.proofs.Numbers.{both, both-of, digits-parts, number-append, number-lt, pow-le}
+use lib.Dec.{eqb, ltb}
+use lib.ListN.{length, take, drop, length-append, length-drop}
+use lib.Seq.{slice, take-take}
+use borrow.Author.Tests.{eqb-true, le-ltb, lt-ltb}
+use Rattle.meaning.specs.Reading.{isDigit, number, allDigits, allZeros, stripZeros, holds}
+use Rattle.meaning.proofs.Numbers.{both, both-of, digits-parts, number-append, number-lt, pow-le, eq-or}
 use Rattle.reading.specs.declared.scan.Spans.{Spans}
 use Rattle.reading.specs.Scan.{isPlain, allPlain, decimals, firstAt, secondAt, points, unpointed, Scanned}
 use Rattle.reading.specs.Run.{without, run, ZerosTo, Walked}
-use Rattle.reading.proofs.Pass.{digit-no-point, first-here, first-later, second-next, second-later, points-more, points-same, unpointed-less, unpointed-more}
-use Rattle.reading.proofs.Walk.{eq-or, run-parts}
-use Rattle.reading.proofs.Split.{plain-or, points-few, first-low, without-past, without-first, first-length, take-drop, decimals-all, decimals-slice, decimals-length}
+use Rattle.reading.proofs.Bytes.{true-or, take-drop, digit-no-point, plain-or, points-more, points-same, unpointed-less, unpointed-more, holds-here, holds-later, first-here, first-later, second-next, second-later, without-skip, without-take}
+use Rattle.reading.proofs.Walk.{run-parts}
+use Rattle.reading.proofs.Split.{points-few, first-low, without-here, without-later, decimals-all, decimals-slice, decimals-length}
 
--- ---- a list whose first byte stands at i, and the first k bytes of it
-
-module _ (b x : ℕ) (l : List ℕ) where
-  holds-here : x ≡ b → holds b (x ∷ l) ≡ true
-  unfolding holds
-  holds-here e = rw (eq-eqb x b e)
-
-  holds-later : (x ≡ b → ⊥) → holds b (x ∷ l) ≡ holds b l
-  unfolding holds
-  holds-later e = rw (ne-eqb x b e)
-
-module _ (p i x : ℕ) (l : List ℕ) where
-  without-here : i ≡ p → without p i (x ∷ l) ≡ l
-  unfolding without
-  without-here e = rw (eq-eqb i p e) (without-past p (i + 1) l (omega arith))
-
-  without-later : i < p → without p i (x ∷ l) ≡ x ∷ without p (i + 1) l
-  unfolding without
-  without-later h = rw (ne-eqb i p (λ e. omega arith))
+-- ---- the first k bytes of a list whose first byte stands at i
 
 holds-first : (b n i k : ℕ) (l : List ℕ) → i + length l ≤ n → k ≤ length l → holds b (take k l) ≡ ltb (firstAt b n i l) (i + k)
 holds-first b n i zero l h m = unfold holds in sym (le-ltb (firstAt b n i l) (i + 0) (omega (arith, first-low b n i l h)))
@@ -133,14 +115,12 @@ length-one n i (x ∷ l) h =
 -- ---- plain bytes
 
 without-plain : (p i : ℕ) (l : List ℕ) → allPlain l ≡ true → allPlain (without p i l) ≡ true
-unfolding without allPlain
-without-plain p i [] e = refl
+unfolding allPlain
+without-plain p i [] e = unfold without in refl
 without-plain p i (x ∷ l) e =
-    let b = both (isPlain x) (allPlain l) e in go (eqb i p) (b .0) (without-plain p (i + 1) l (b .1))
-  where
-    go : (t : Bool) → isPlain x ≡ true → allPlain (without p (i + 1) l) ≡ true → allPlain (cond t (without p (i + 1) l) (x ∷ without p (i + 1) l)) ≡ true
-    go true q h = h
-    go false q h = both-of (isPlain x) (allPlain (without p (i + 1) l)) q h
+    let b = both (isPlain x) (allPlain l) e in
+    let h = without-plain p (i + 1) l (b .1) in
+    ⊎-elim (λ q. rw (without-skip p i x l q) h) (λ q. rw (without-take p i x l q, b .0, h)) (eq-or i p)
 
 plain-parts : (a b : List ℕ) → allPlain (a ++ b) ≡ true → (allPlain a ≡ true) × (allPlain b ≡ true)
 unfolding allPlain
@@ -149,7 +129,7 @@ plain-parts (x ∷ a) b e =
     let h = both (isPlain x) (allPlain (a ++ b)) e in
     let r = plain-parts a b (h .1) in (both-of (isPlain x) (allPlain a) (h .0) (r .0), r .1)
 
-pub plain-digits : (l : List ℕ) → allPlain l ≡ true → holds 46 l ≡ false → allDigits l ≡ true
+plain-digits : (l : List ℕ) → allPlain l ≡ true → holds 46 l ≡ false → allDigits l ≡ true
 unfolding allPlain allDigits
 plain-digits [] p e = refl
 plain-digits (x ∷ l) p e =
@@ -184,7 +164,7 @@ module _ (s : List ℕ) (start : ℕ) (d : Spans) (c : Scanned s start d) (h : s
   pub points-width : d .found .points ≤ d .stop - start
   points-width = omega (arith, points-few part, c .points, c .stop)
 
-  pub part-slice : part ≡ slice start (d .stop) s
+  part-slice : part ≡ slice start (d .stop) s
   part-slice = decimals-slice s start ∙ rw (c .stop)
 
   slice-take : (t : ℕ) → start ≤ t → t ≤ d .stop → slice start t s ≡ take (t - start) part
@@ -252,11 +232,11 @@ module _ (s : List ℕ) (start : ℕ) (d : Spans) (c : Scanned s start d) (h : s
 strip-zeros : (a b : List ℕ) → stripZeros (a ++ b) ≡ b → allZeros a ≡ true
 unfolding stripZeros allZeros
 strip-zeros [] b e = refl
-strip-zeros (x ∷ a) b e = go (eqb x 48) e (strip-zeros a b)
-  where
-    go : (t : Bool) → cond t (stripZeros (a ++ b)) (x ∷ (a ++ b)) ≡ b → (stripZeros (a ++ b) ≡ b → allZeros a ≡ true) → (t && allZeros a) ≡ true
-    go true q f = f q
-    go false q f = absurd (omega (arith, simp length-append at (ap length q)))
+strip-zeros (x ∷ a) b e =
+    ⊎-elim
+    (λ q. rw q (strip-zeros a b (rw q at e)))
+    (λ q. absurd (omega (arith, length-append a b, ap length (rw q at e))))
+    (true-or (eqb x 48))
 
 zeros-hold : (a b : List ℕ) → allZeros a ≡ true → holds 46 (a ++ b) ≡ holds 46 b
 unfolding allZeros

@@ -3,28 +3,28 @@ use mathlib.Core.Path.{_≡_, refl, sym, ap, _∙_}
 use mathlib.Core.Logic.{_⊎_, inl, inr, ⊎-elim}
 use mathlib.Core.Bool.{Bool, true, false, cond}
 use mathlib.Core.List.{List, [], _∷_, _++_, map, append-nil}
-use Prim.Native.Nat.{ℕ, zero, suc, _+_, _-_, _*_, _^_, _≤_, _<_}
+use Prim.Native.Nat.{ℕ, suc, _+_, _-_, _^_, _≤_, _<_}
 use native.Mathlib.Nat.{le-of-lt, lt-of-lt-of-le}
 use native.Mathlib.Omega.{arith}
-use lib.Dec.{eqb, leb, lit≤, lit<}
-use lib.ListN.{length, getD, take, drop, length-drop, drop-of-length-le, length-map}
+use lib.Dec.{leb, lit≤, lit<}
+use lib.ListN.{length, getD, drop, length-drop, drop-of-length-le, length-map}
 use lib.Seq.{drop-drop}
 use borrow.Author.Tests.{eq-eqb, ne-eqb, le-leb, lt-leb}
 use Rattle.meaning.specs.Refusals.{numberOf}
-use Rattle.meaning.specs.Refusals.Refusal.{emptyExponent, unparseable, invalidExponent, underflow}
+use Rattle.meaning.specs.Refusals.Refusal.{invalidExponent, underflow}
 use Rattle.meaning.specs.Reading.{Reading, origin, lower, before, from, fraction, stripZeros, decimalPart, exponent, Written, step3, step4, step5, step6, step7}
 use Rattle.meaning.specs.Reading.Reading.{refused}
 use Rattle.meaning.specs.Reading.Written.{written, wrong}
 use Rattle.limbs.specs.declared.wide.Shift.{Shift}
 use Rattle.limbs.specs.Wide.{Stands, Lowered}
 use Rattle.reading.specs.declared.scan.Spans.{Spans}
-use Rattle.reading.specs.Scan.{isPlain, decimals, firstAt, points, Scanned}
+use Rattle.reading.specs.Scan.{isPlain, decimals, points, Scanned}
 use Rattle.reading.specs.Run.{run}
-use Rattle.reading.specs.Split.{wrongFor, Refusing, Leaving, Shifted}
+use Rattle.reading.specs.Split.{wrongFor, Shifted}
 use Rattle.reading.specs.Told.{named}
 use Rattle.reading.proofs.Names.{name-of, number-some}
 use Rattle.reading.proofs.Lower.{exponent-lower}
-use Rattle.reading.proofs.Pass.{drop-step}
+use Rattle.reading.proofs.Bytes.{drop-step}
 use Rattle.reading.proofs.Split.{before-split, from-split, decimals-all, decimal-points, decimal-right, step3-wrong, wrong-after, first-length, without-first}
 use Rattle.reading.proofs.Points.{part, fits, run-whole}
 

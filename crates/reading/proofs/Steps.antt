@@ -1,21 +1,22 @@
 -- Steps 7 to 11 as the code takes them: by where x stands, and by what is cut from the run.
-use mathlib.Core.Path.{_≡_, refl, sym, ap, _∙_}
-use mathlib.Core.Logic.{_⊎_, inl, inr, ⊎-elim}
-use mathlib.Core.Bool.{Bool, true, false, _&&_, _||_, cond}
+use mathlib.Core.Path.{_≡_, refl, sym, _∙_}
+use mathlib.Core.Logic.{_⊎_, ⊎-elim}
+use mathlib.Core.Bool.{Bool, true, cond, true≢false}
 use mathlib.Core.List.{List, [], _∷_, _++_, append-nil}
-use Prim.Native.Nat.{ℕ, zero, suc, _+_, _-_, _*_, _^_, _≤_, _<_, min, max}
+use Prim.Native.Nat.{ℕ, suc, _+_, _-_, _*_, _^_, _≤_, _<_, min, max}
 use native.Mathlib.Nat.{add-zero, sub-zero, lt-of-lt-of-le, mul-lt-mul-of-pos-right}
-use lib.Pow.{pow-add}
 use native.Mathlib.Omega.{arith}
-use lib.Dec.{eqb, leb, ltb}
-use lib.ListN.{length, take, drop, replicate, length-append, length-replicate}
+use lib.Pow.{pow-add}
+use lib.Dec.{eqb}
+use lib.ListN.{length, take, drop, replicate, length-replicate}
 use lib.Seq.{take-length, drop-length}
-use borrow.Author.Tests.{eq-eqb, ne-eqb, le-leb, lt-leb}
+use borrow.Author.Tests.{le-leb, lt-leb}
 use Rattle.meaning.specs.Reading.{Reading, low, high, number, allDigits, allZeros, holds, stripZeros, kept, lost, step7, step8, step9, step10, step11}
 use Rattle.meaning.specs.Reading.Reading.{refused, accepted}
 use Rattle.meaning.specs.Decimal.Decimal.{finite}
 use Rattle.meaning.specs.Refusals.Refusal.{invalidCoefficient, overflow, inexactRounding}
-use Rattle.meaning.proofs.Numbers.{le-or, no-point, digits-append, digits-zeros, zeros-zeros, zeros-number, number-split, strip-number, strip-digits, number-lt, pow-pos, pow-le}
+use Rattle.meaning.proofs.Numbers.{le-or, no-point, digits-append, digits-zeros, zeros-zeros, zeros-number, number-split, strip-number, strip-digits, number-lt, pow-pos, pow-le, eq-or}
+use Rattle.reading.proofs.Bytes.{true-or, holds-here, holds-later}
 
 -- ---- the range of x
 
@@ -26,13 +27,12 @@ range = refl
 -- ---- step 11
 
 holds-append : (b : ℕ) (s t : List ℕ) → holds b s ≡ true → holds b (s ++ t) ≡ true
-unfolding holds
-holds-append b (x ∷ s) t e = go (eqb x b) e (holds-append b s t)
-  where
-    go : (u : Bool) → (u || holds b s) ≡ true → (holds b s ≡ true → holds b (s ++ t) ≡ true) → (u || holds b (s ++ t)) ≡ true
-    go true q h = refl
-    go false q h = h q
-holds-append b [] t e = let z : _≡_ {A = ℕ} 0 1 = cc in absurd (omega arith)
+holds-append b [] t e = unfold holds in absurd (true≢false (sym e))
+holds-append b (x ∷ s) t e =
+    ⊎-elim
+    (λ q. holds-here b x (s ++ t) q)
+    (λ q. holds-later b x (s ++ t) q ∙ holds-append b s t (sym (holds-later b x s q) ∙ e))
+    (eq-or x b)
 
 pub step11-point : (g : Bool) (x : ℕ) (s t : List ℕ) → holds 46 s ≡ true → step11 g x (s ++ t) ≡ refused invalidCoefficient
 unfolding step11
@@ -164,11 +164,8 @@ step8-left g n c k run ec ek =
 strip-length : (s : List ℕ) → length (stripZeros s) ≤ length s
 unfolding stripZeros
 strip-length [] = omega arith
-strip-length (x ∷ s) = go (eqb x 48) (strip-length s)
-  where
-    go : (t : Bool) → length (stripZeros s) ≤ length s → length (cond t (stripZeros s) (x ∷ s)) ≤ suc (length s)
-    go true h = omega arith
-    go false h = omega arith
+strip-length (x ∷ s) =
+    ⊎-elim (λ q. rw q (omega (arith, strip-length s))) (λ q. rw q (omega arith)) (true-or (eqb x 48))
 
 module _ (g : Bool) (n : ℕ) (h : low ≤ n) (k : n ≤ high) where
   as-it-is : (run : List ℕ) → allDigits run ≡ true → length run ≤ 34 → step7 g n run ≡ accepted (finite g (n - low) (number 0 run))

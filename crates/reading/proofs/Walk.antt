@@ -1,64 +1,46 @@
 -- Laws of `run`: a byte more, its parts, its length, its zeros.
 use mathlib.Core.Path.{_≡_, refl, sym, ap, _∙_}
 use mathlib.Core.Logic.{_⊎_, inl, inr, ⊎-elim}
-use mathlib.Core.Bool.{Bool, true, false, cond, _&&_, _||_}
+use mathlib.Core.Bool.{true, false}
 use mathlib.Core.List.{List, [], _∷_, _++_}
-use Prim.Native.Nat.{ℕ, zero, suc, _+_, _-_, _*_, _^_, _≤_, _<_, min, max}
+use Prim.Native.Nat.{ℕ, suc, _+_, _-_, _*_, _^_, _≤_, _<_}
 use native.Mathlib.Nat.{add-zero, lt-of-lt-of-le}
-use native.Mathlib.Numerals.{add-one}
 use native.Mathlib.Omega.{arith}
-use lib.Dec.{eqb, leb, ltb, lit≤}
-use lib.ListN.{length, getD, take, drop, length-append, take-append-drop}
-use lib.Seq.{slice, slice-empty, slice-cons, take-at, drop-at, length-slice, take-take, drop-append-le, length-take-le}
-use borrow.Author.Tests.{eq-eqb, ne-eqb, le-leb, lt-leb, lt-ltb, le-ltb, eqb-true, eqb-false}
+use lib.Dec.{lit≤}
+use lib.ListN.{length, getD, take, drop}
+use lib.Seq.{slice, slice-empty, take-at, drop-at, length-slice}
+use borrow.Author.Tests.{eq-eqb, ne-eqb}
 use Rattle.meaning.specs.Reading.{isDigit, number, allDigits, stripZeros, allZeros}
-use Rattle.meaning.proofs.Numbers.{le-or, both, byte-digit, pow-le}
-use Rattle.reading.proofs.Pass.{more-digits}
+use Rattle.meaning.proofs.Numbers.{le-or, both, byte-digit, pow-le, eq-or}
 use Rattle.reading.specs.Run.{without, run, counted, Offset, ZerosTo}
-
-pub eq-or : (m n : ℕ) → (m ≡ n) ⊎ (m ≡ n → ⊥)
-eq-or m n = go (eqb m n) refl
-  where
-    go : (t : Bool) → eqb m n ≡ t → (m ≡ n) ⊎ (m ≡ n → ⊥)
-    go true e = inl (eqb-true m n e)
-    go false e = inr (eqb-false m n e)
-
-pub slice-step : (f t : ℕ) (s : List ℕ) → f < t → t ≤ length s → slice f t s ≡ getD s f 0 ∷ slice (f + 1) t s
-slice-step f t s h k = rw (add-one, slice-cons f t s 0 h k)
-
-pub slice-parts : (f m t : ℕ) (s : List ℕ) → f ≤ m → m ≤ t → t ≤ length s → slice f t s ≡ slice f m s ++ slice m t s
-slice-parts f m t s h k l =
-    let e : take t s ≡ take m s ++ slice m t s = sym (take-append-drop m (take t s)) ∙ rw take-take in
-    let q : f ≤ length (take m s) = omega (arith, length-take-le m s (omega arith)) in
-    ap (drop f) e ∙ rw drop-append-le
-
-without-append : (p i : ℕ) (a b : List ℕ) → without p i (a ++ b) ≡ without p i a ++ without p (i + length a) b
-unfolding without
-without-append p i [] b = rw add-zero
-without-append p i (x ∷ a) b =
-    let n : i + suc (length a) ≡ i + 1 + length a = omega arith in
-    rw n (go (eqb i p) (without-append p (i + 1) a b))
-  where
-    go : (t : Bool) → without p (i + 1) (a ++ b) ≡ without p (i + 1) a ++ without p (i + 1 + length a) b → cond t (without p (i + 1) (a ++ b)) (x ∷ without p (i + 1) (a ++ b)) ≡ cond t (without p (i + 1) a) (x ∷ without p (i + 1) a) ++ without p (i + 1 + length a) b
-    go true e = e
-    go false e = ap (λ (l : List ℕ). x ∷ l) e
+use Rattle.reading.proofs.Bytes.{slice-step, slice-parts, without-skip, without-take}
+use Rattle.reading.proofs.Pass.{more-digits}
 
 -- ---- a byte more
 
 module _ (p i t : ℕ) (s : List ℕ) (h : i < t) (l : t ≤ length s) where
-  pub run-skip : i ≡ p → run p i t s ≡ run p (i + 1) t s
-  unfolding run without
-  run-skip e = rw (slice-step i t s h l) (simp (eq-eqb i p e))
+  run-skip : i ≡ p → run p i t s ≡ run p (i + 1) t s
+  unfolding run
+  run-skip e = rw (slice-step i t s h l) (without-skip p i _ _ e)
 
-  pub run-take : (i ≡ p → ⊥) → run p i t s ≡ getD s i 0 ∷ run p (i + 1) t s
-  unfolding run without
-  run-take e = rw (slice-step i t s h l) (simp (ne-eqb i p e))
+  run-take : (i ≡ p → ⊥) → run p i t s ≡ getD s i 0 ∷ run p (i + 1) t s
+  unfolding run
+  run-take e = rw (slice-step i t s h l) (without-take p i _ _ e)
 
-pub run-empty : (p t : ℕ) (s : List ℕ) → run p t t s ≡ []
+run-empty : (p t : ℕ) (s : List ℕ) → run p t t s ≡ []
 unfolding run without
 run-empty p t s = rw (slice-empty t s)
 
 -- ---- its parts
+
+without-append : (p i : ℕ) (a b : List ℕ) → without p i (a ++ b) ≡ without p i a ++ without p (i + length a) b
+without-append p i [] b = unfold without in rw add-zero
+without-append p i (x ∷ a) b =
+    let n : i + suc (length a) ≡ i + 1 + length a = omega arith in
+    ⊎-elim
+    (λ e. rw (n, without-skip p i x (a ++ b) e, without-skip p i x a e) (without-append p (i + 1) a b))
+    (λ e. rw (n, without-take p i x (a ++ b) e, without-take p i x a e, without-append p (i + 1) a b))
+    (eq-or i p)
 
 pub run-parts : (p i m t : ℕ) (s : List ℕ) → i ≤ m → m ≤ t → t ≤ length s → run p i t s ≡ run p i m s ++ run p m t s
 unfolding run
@@ -91,13 +73,12 @@ counted-more p i n e =
     (le-or p i)
 
 length-without : (p i : ℕ) (s : List ℕ) → length (without p i s) ≡ counted p i (i + length s)
-unfolding without
-length-without p i [] = omega arith
-length-without p i (x ∷ s) = go (eqb i p) refl (length-without p (i + 1) s)
-  where
-    go : (t : Bool) → eqb i p ≡ t → length (without p (i + 1) s) ≡ counted p (i + 1) (i + 1 + length s) → length (cond t (without p (i + 1) s) (x ∷ without p (i + 1) s)) ≡ counted p i (i + suc (length s))
-    go true e l = l ∙ counted-skip p i (length s) (eqb-true i p e)
-    go false e l = ap suc l ∙ counted-more p i (length s) (eqb-false i p e)
+length-without p i [] = unfold without in omega arith
+length-without p i (x ∷ s) =
+    ⊎-elim
+    (λ e. rw (without-skip p i x s e) (length-without p (i + 1) s ∙ counted-skip p i (length s) e))
+    (λ e. rw (without-take p i x s e) (ap suc (length-without p (i + 1) s) ∙ counted-more p i (length s) e))
+    (eq-or i p)
 
 pub length-run : (p i t : ℕ) (s : List ℕ) → i ≤ t → t ≤ length s → length (run p i t s) ≡ counted p i t
 unfolding run

@@ -1,12 +1,13 @@
 -- The run of step 7, as it lies in the text: document 01, 'Reading text', steps 6 to 10.
-use Prim.Native.Nat.{ℕ, _+_, _-_, _≤_, min, max}
 use mathlib.Core.Path.{_≡_}
-use mathlib.Core.Bool.{Bool, true, cond}
+use mathlib.Core.Bool.{true, cond}
 use mathlib.Core.List.{List, [], _∷_}
+use Prim.Native.Nat.{ℕ, _+_, _-_, _≤_, _<_, min, max}
 use lib.Dec.{eqb, ltb}
 use lib.Seq.{slice}
 use lib.ListN.{length}
 use Rattle.meaning.specs.Reading.{stripZeros, allZeros, holds}
+use Rattle.limbs.specs.declared.wide.Stand.{Stand}
 use Rattle.reading.specs.declared.scan.Spans.{Spans}
 use Rattle.reading.specs.Scan.{allPlain}
 
@@ -42,3 +43,10 @@ pub record Walked (s : List ℕ) (i : ℕ) (d : Spans) : Type 0 where
   pub within : d .stop ≤ length s
   pub plain : allPlain (run (d .found .point) i (d .stop) s) ≡ true
   pub second : (t : ℕ) → i ≤ t → t ≤ d .stop → holds 46 (run (d .found .point) i t s) ≡ ltb (d .found .second) t
+
+-- steps 7 to 11 cut and pad nothing: x is in range, and `width` bytes have at most 34 digits and one point
+pub record Short (p : Stand) (width points : ℕ) : Type 0 where
+  pub below : p .below ≡ 0
+  pub above : p .above ≡ 0
+  pub one : points < 2
+  pub few : width - points ≤ 34

@@ -1,14 +1,13 @@
 -- What one pass over the decimal part of a text finds: document 01, 'Reading text', steps 4 and 6.
-use Prim.Native.Nat.{ℕ, _+_, _-_, _*_, _^_, _≤_, _<_, min}
 use mathlib.Core.Path.{_≡_}
 use mathlib.Core.Logic.{_⊎_}
 use mathlib.Core.Bool.{Bool, true, false, cond, _&&_, _||_}
 use mathlib.Core.List.{List, [], _∷_}
+use Prim.Native.Nat.{ℕ, _+_, _-_, _*_, _^_, _≤_, _<_, min}
 use lib.Dec.{eqb}
 use lib.ListN.{length, drop, getD}
 use lib.Seq.{slice}
 use Rattle.meaning.specs.Reading.{isDigit, number}
-use Rattle.limbs.specs.declared.wide.Stand.{Stand}
 use Rattle.reading.specs.declared.scan.Found.{Found}
 use Rattle.reading.specs.declared.scan.Spans.{Spans}
 
@@ -88,10 +87,3 @@ pub record Scanned (s : List ℕ) (start : ℕ) (d : Spans) : Type 0 where
   pub second : d .found .second ≡ secondAt (length s) start (decimals (drop start s))
   pub value : d .found .value ≡ number 0 (unpointed (slice start (min (d .stop) (start + 19)) s))
   pub ended : Stopped s (d .stop)
-
--- steps 7 to 11 cut and pad nothing: x is in range, and `width` bytes have at most 34 digits and one point
-pub record Short (p : Stand) (width points : ℕ) : Type 0 where
-  pub below : p .below ≡ 0
-  pub above : p .above ≡ 0
-  pub one : points < 2
-  pub few : width - points ≤ 34

@@ -1,7 +1,7 @@
 -- What the reader's answers tell.
-use Prim.Native.Nat.{ℕ}
 use mathlib.Core.Path.{_≡_}
 use mathlib.Core.Bool.{cond}
+use Prim.Native.Nat.{ℕ}
 use lib.Dec.{eqb}
 use Rattle.meaning.specs.Refusals.{Refusal}
 use Rattle.meaning.specs.Refusals.Refusal.{emptyExponent, invalidExponent, invalidCoefficient, overflow, underflow, inexactRounding, unparseable, malformedBytes, noRoom, lineTooLong}

@@ -1,5 +1,4 @@
 // The answers of the reader.
-ghost use mathlib.Core.Path.{_≡_};
 ghost use Prim.Native.Nat.{_^_, _<_, _≤_};
 ghost use Rattle.limbs.specs.Value.{value};
 ghost use Rattle.meaning.specs.Reading as meaning;
@@ -8,12 +7,24 @@ ghost use Rattle.reading.specs.Told.{named, Gives};
 use layout::Kind;
 use layout::Unpacked;
 
+// Document 01, 'Numbers of the refusals'. Numbers 2 and 5 come from the exponent, of limbs.
+pub const EMPTY_EXPONENT: u32 = 1;
+
+pub const INVALID_COEFFICIENT: u32 = 3;
+
+pub const OVERFLOW: u32 = 4;
+
+pub const INEXACT_ROUNDING: u32 = 6;
+
+pub const UNPARSEABLE: u32 = 7;
+
 // The number of a refusal, or 0 and the value. A refusal carries a zero.
 pub struct Answer {
     pub number: u32,
     pub value: Unpacked,
 }
 
+// A refusal.
 pub fn refused(number: u32) -> Answer
     requires { ⌜ 0 < number ⌝ }
     ensures { λ r. ⌜ Gives (meaning.Reading.refused (named number)) r ⌝ }
@@ -29,6 +40,7 @@ pub fn refused(number: u32) -> Answer
     }
 }
 
+// Not a number.
 pub fn nan(negative: bool, signalling: bool) -> Answer
     ensures { λ r. ⌜ Gives (meaning.Reading.accepted (decimal.Decimal.nan negative signalling)) r ⌝ }
 {
@@ -45,6 +57,7 @@ pub fn nan(negative: bool, signalling: bool) -> Answer
     }
 }
 
+// Infinity, with its sign.
 pub fn infinity(negative: bool) -> Answer
     ensures { λ r. ⌜ Gives (meaning.Reading.accepted (decimal.Decimal.infinity negative)) r ⌝ }
 {
@@ -59,6 +72,7 @@ pub fn infinity(negative: bool) -> Answer
     }
 }
 
+// A number, where its field and coefficient are those of the format.
 pub fn finite(negative: bool, field: u32, c: [u32; 4]) -> Answer
     ensures { λ r. ⌜ (field ≤ 12287 → value c < 10 ^ 34 → Gives (meaning.Reading.accepted (decimal.Decimal.finite negative field (value c))) r) ⌝ }
 {

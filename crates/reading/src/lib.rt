@@ -9,15 +9,17 @@ ghost use Rattle.reading.specs.Scan.{Scanned};
 ghost use Rattle.reading.specs.Split.{startOf, Shifted};
 ghost use Rattle.reading.specs.Told.{Gives};
 use crate::answer::Answer;
+use crate::answer::EMPTY_EXPONENT;
+use crate::answer::UNPARSEABLE;
 use crate::scan::Spans;
 use limbs::wide;
 use limbs::wide::Shift;
 
 pub mod answer;
-pub mod round;
-pub mod run;
-pub mod scan;
-pub mod words;
+mod round;
+mod run;
+mod scan;
+mod words;
 
 // F: how many bytes stand after the first point.
 fn fraction(point: usize, stop: usize) -> u64
@@ -38,18 +40,18 @@ fn shift(s: &[u8], start: usize, d: Spans) -> Shift
     let f = fraction(d.found.point, stop);
     if stop == s.len() {
         if stop - start == d.found.points {
-            return wide::refused(7);
+            return wide::refused(UNPARSEABLE);
         }
         return wide::minus(f);
     }
-    if words::lower_case(s[stop]) != 101 {
+    if words::lower_case(s[stop]) != b'e' {
         return wide::refused(words::wrong(s, stop));
     }
     if stop + 1 == s.len() {
-        return wide::refused(1);
+        return wide::refused(EMPTY_EXPONENT);
     }
     if stop - start == d.found.points {
-        return wide::refused(7);
+        return wide::refused(UNPARSEABLE);
     }
     wide::exponent_less(s, stop + 1, f)
 }
@@ -58,24 +60,24 @@ fn shift(s: &[u8], start: usize, d: Spans) -> Shift
 fn start_of(first: u8) -> usize
     ensures { λ r. ⌜ r ≡ startOf first ⌝ }
 {
-    if first == 45 {
+    if first == b'-' {
         return 1;
     }
-    if first == 43 {
+    if first == b'+' {
         return 1;
     }
     0
 }
 
-// Steps 1 to 11.
+// What a text reads as: steps 1 to 11. A value that is accepted can be packed.
 pub fn read(s: &[u8]) -> Answer
     ensures { λ r. ⌜ Gives (readText (now (s .entry))) r ⌝ }
 {
     if s.len() == 0 {
-        return answer::refused(7);
+        return answer::refused(UNPARSEABLE);
     }
     let first = s[0];
-    let negative = first == 45;
+    let negative = first == b'-';
     let start = start_of(first);
     let d = scan::scan(s, start);
     if d.stop == start {

@@ -7,11 +7,14 @@ ghost use lib.ListN.{length, take, replicate};
 ghost use Rattle.meaning.specs.Reading.{low, number, stripZeros, step7, step9, step11};
 ghost use Rattle.limbs.specs.Value.{value};
 ghost use Rattle.limbs.specs.Wide.{Stands, Raised};
-ghost use Rattle.reading.specs.Run.{run, Walked};
-ghost use Rattle.reading.specs.Scan.{Scanned, Short};
+ghost use Rattle.reading.specs.Run.{run, Walked, Short};
+ghost use Rattle.reading.specs.Scan.{Scanned};
 ghost use Rattle.reading.specs.Told.{Gives};
 use crate::answer;
 use crate::answer::Answer;
+use crate::answer::INEXACT_ROUNDING;
+use crate::answer::INVALID_COEFFICIENT;
+use crate::answer::OVERFLOW;
 use crate::run;
 use crate::scan;
 use crate::scan::Spans;
@@ -35,7 +38,7 @@ fn kept(
     ensures { λ r. ⌜ (field ≤ 12287 → Gives (step11 negative (low + field) (run (d .found .point) first to (now (s .entry)) ++ replicate pad 48)) r) ⌝ }
 {
     if d.found.second < to {
-        return answer::refused(3);
+        return answer::refused(INVALID_COEFFICIENT);
     }
     let c = run::push_digits([0, 0, 0, 0], s, first, to, d.found.point);
     answer::finite(negative, field, powers::padded(c, pad))
@@ -49,23 +52,22 @@ fn placed(s: &[u8], d: Spans, first: usize, count: usize, negative: bool, x: Shi
     let p = wide::place(x);
     let below = p.below as usize;
     let above = p.above as usize;
-    // Overflow at both ends: Underflow is step 6's alone.
     if count < below {
-        return answer::refused(4); // too small
+        return answer::refused(OVERFLOW); // too small
     }
     if 34 < count + above {
-        return answer::refused(4); // too large
+        return answer::refused(OVERFLOW); // too large
     }
     let point = d.found.point;
     let cut = run::after(first, count - below, point);
     let end = run::after(first, count, point);
     if run::first_other(s, cut, end, point) < end {
-        return answer::refused(6);
+        return answer::refused(INEXACT_ROUNDING);
     }
     kept(s, d, first, cut, negative, p.field, above)
 }
 
-// Steps 7 to 11.
+// Steps 7 to 11, of any run: zeros are passed over, and what is cut must be zeros.
 fn rounded(s: &[u8], start: usize, d: Spans, negative: bool, x: Shift) -> Answer
     requires { ⌜ Walked (now s) start d ⌝ }
     ensures { λ r. ⌜ ((n : ℕ) → Stands n x → Gives (step7 negative n (stripZeros (run (d .found .point) start (d .stop) (now (s .entry))))) r) ⌝ }
@@ -81,7 +83,7 @@ fn rounded(s: &[u8], start: usize, d: Spans, negative: bool, x: Shift) -> Answer
     let keep = scan::least(count, 34);
     let end = run::after(first, keep, point);
     if run::first_other(s, end, stop, point) < stop {
-        return answer::refused(6);
+        return answer::refused(INEXACT_ROUNDING);
     }
     placed(
         s,
@@ -126,7 +128,7 @@ fn whole(s: &[u8], start: usize, d: Spans) -> [u32; 4]
     run::push_digits(c, s, start + 19, stop, d.found.point)
 }
 
-// Steps 7 to 11.
+// Steps 7 to 11: what is short is its digits and the field of x.
 pub fn finite(s: &[u8], start: usize, d: Spans, negative: bool, x: Shift) -> Answer
     requires { ⌜ Scanned (now s) start d × (start ≤ length (now s)) ⌝ }
     ensures { λ r. ⌜ ((n : ℕ) → Stands n x → Gives (step7 negative n (stripZeros (run (d .found .point) start (d .stop) (now (s .entry))))) r) ⌝ }

@@ -14,7 +14,7 @@ pub fn first_other(s: &[u8], from: usize, to: usize, point: usize) -> usize
 {
     let mut i = from;
     while i < to {
-        if s[i] != 48 {
+        if s[i] != b'0' {
             if i != point {
                 return i;
             }
@@ -63,7 +63,7 @@ pub fn push_digits(c: [u32; 4], s: &[u8], from: usize, to: usize, point: usize) 
     let mut i = from;
     while i < to {
         if i != point {
-            let next = limbs::times_ten_plus(acc, (s[i] - 48) as u32);
+            let next = limbs::times_ten_plus(acc, (s[i] - b'0') as u32);
             acc = next;
         }
         i += 1;

@@ -1,11 +1,8 @@
 // One pass over the decimal part of a text: where it stops, its points, and the number of its first bytes.
 ghost use mathlib.Core.Path.{_≡_};
-ghost use mathlib.Core.Logic.{_⊎_};
-ghost use mathlib.Core.Bool.{Bool, false, cond};
+ghost use mathlib.Core.Bool.{cond};
 ghost use Prim.Native.Nat.{ℕ, _+_, _-_, _*_, _^_, _<_, _≤_, min};
-ghost use lib.Dec.{eqb};
-ghost use lib.ListN.{length, getD};
-ghost use lib.Seq.{slice};
+ghost use lib.ListN.{length};
 ghost use Rattle.meaning.specs.Reading.{isDigit, number};
 ghost use Rattle.reading.specs.Scan.{withDigit, withPoint, Passing, Added, Stopped, Scanned};
 
@@ -27,9 +24,10 @@ pub struct Spans {
 fn is_digit(b: u8) -> bool
     ensures { λ r. ⌜ r ≡ isDigit b ⌝ }
 {
-    48 <= b && b <= 57
+    b'0' <= b && b <= b'9'
 }
 
+// One more digit.
 fn with_digit(m: Found, b: u8) -> Found
     requires { ⌜ (48 ≤ b) × (b ≤ 57) × (m .value < 10 ^ 18) ⌝ }
     ensures { λ r. ⌜ r ≡ withDigit m b ⌝ }
@@ -38,7 +36,7 @@ fn with_digit(m: Found, b: u8) -> Found
         point: m.point,
         second: m.second,
         points: m.points,
-        value: m.value * 10 + (b - 48) as u64,
+        value: m.value * 10 + (b - b'0') as u64,
     }
 }
 
@@ -48,6 +46,7 @@ fn either(first: bool, a: usize, b: usize) -> usize
     if first { a } else { b }
 }
 
+// One more point, at i.
 fn with_point(m: Found, i: usize) -> Found
     requires { ⌜ m .points < 2 ^ 63 ⌝ }
     ensures { λ r. ⌜ r ≡ withPoint m i ⌝ }
@@ -71,7 +70,7 @@ fn scan_on(s: &[u8], from: usize, before: Found) -> Spans
     while i < s.len() {
         let b = s[i];
         if !is_digit(b) {
-            if b != 46 {
+            if b != b'.' {
                 return Spans { stop: i, found: m };
             }
             m = with_point(m, i);
@@ -99,7 +98,7 @@ fn scan_short(s: &[u8], start: usize, end: usize) -> Spans
         if is_digit(b) {
             m = with_digit(m, b);
         } else {
-            if b != 46 {
+            if b != b'.' {
                 return Spans { stop: i, found: m };
             }
             m = with_point(m, i);
@@ -109,6 +108,7 @@ fn scan_short(s: &[u8], start: usize, end: usize) -> Spans
     Spans { stop: i, found: m }
 }
 
+// The lesser of two.
 pub fn least(a: usize, b: usize) -> usize
     ensures { λ r. ⌜ r ≡ min a b ⌝ }
 {

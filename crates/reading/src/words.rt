@@ -10,30 +10,33 @@ ghost use Rattle.reading.specs.Split.{wrongFor};
 ghost use Rattle.reading.specs.Told.{Gives};
 use crate::answer;
 use crate::answer::Answer;
+use crate::answer::EMPTY_EXPONENT;
+use crate::answer::UNPARSEABLE;
 
 // A to Z as a to z.
 pub fn lower_case(b: u8) -> u8
     ensures { λ r. ⌜ r ≡ lower b ⌝ }
 {
-    if b < 65 {
+    if b < b'A' {
         return b;
     }
-    if 90 < b {
+    if b'Z' < b {
         return b;
     }
     b + 32
 }
 
-// The text is the word w, in either case of its letters.
-fn is_word(s: &[u8], w: &[u8]) -> bool
-    ensures { λ r. ⌜ r ≡ same (map lower (now (s .entry))) (now (w .entry)) ⌝ }
+// The text from start on is the word w, in either case of its letters.
+fn is_word(s: &[u8], start: usize, w: &[u8]) -> bool
+    requires { ⌜ start ≤ length (now s) ⌝ }
+    ensures { λ r. ⌜ r ≡ same (map lower (drop start (now (s .entry)))) (now (w .entry)) ⌝ }
 {
-    if s.len() != w.len() {
+    if s.len() - start != w.len() {
         return false;
     }
     let mut i = 0;
-    while i < s.len() {
-        if lower_case(s[i]) != w[i] {
+    while i < w.len() {
+        if lower_case(s[start + i]) != w[i] {
             return false;
         }
         i += 1;
@@ -48,7 +51,7 @@ fn find_e(s: &[u8], from: usize) -> usize
 {
     let mut i = from;
     while i < s.len() {
-        if lower_case(s[i]) == 101 {
+        if lower_case(s[i]) == b'e' {
             return i;
         }
         i += 1;
@@ -61,7 +64,11 @@ pub fn wrong(s: &[u8], at: usize) -> u32
     requires { ⌜ at ≤ length (now s) ⌝ }
     ensures { λ r. ⌜ r ≡ numberOf (wrongFor (from 101 (map lower (drop at (now (s .entry)))))) ⌝ }
 {
-    if find_e(s, at) + 1 == s.len() { 1 } else { 7 }
+    if find_e(s, at) + 1 == s.len() {
+        EMPTY_EXPONENT
+    } else {
+        UNPARSEABLE
+    }
 }
 
 // Step 2, of a text that starts with neither digit nor point.
@@ -69,17 +76,16 @@ pub fn word(s: &[u8], start: usize, negative: bool) -> Answer
     requires { ⌜ (start ≤ length (now s)) × (decimals (drop start (now s)) ≡ []) ⌝ }
     ensures { λ r. ⌜ Gives (step2 negative (map lower (drop start (now (s .entry))))) r ⌝ }
 {
-    let t = &s[start..];
-    if is_word(t, b"nan") {
+    if is_word(s, start, b"nan") {
         return answer::nan(negative, false);
     }
-    if is_word(t, b"snan") {
+    if is_word(s, start, b"snan") {
         return answer::nan(negative, true);
     }
-    if is_word(t, b"infinity") {
+    if is_word(s, start, b"infinity") {
         return answer::infinity(negative);
     }
-    if is_word(t, b"inf") {
+    if is_word(s, start, b"inf") {
         return answer::infinity(negative);
     }
     answer::refused(wrong(s, start))

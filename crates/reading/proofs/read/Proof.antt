@@ -1,40 +1,43 @@
-use Prim.Native.Nat.{ℕ, _≤_, _<_}
-use mathlib.Core.Path.{_≡_, sym, _∙_}
+use mathlib.Core.Path.{_≡_, _∙_}
 use mathlib.Core.Logic.{⊎-elim}
 use mathlib.Core.List.{List, map}
+use Prim.Native.Nat.{ℕ, _≤_, _<_}
 use native.Mathlib.Omega.{arith}
 use lib.Dec.{eqb}
 use lib.ListN.{length, getD, drop}
+use borrow.Author.Needs.{needs}
 use Rattle.meaning.specs.Reading.{lower, before, from, readText, step2, step3}
 use Rattle.reading.specs.Told.{named}
 use Rattle.reading.specs.Scan.{decimals}
 use Rattle.reading.proofs.Letters.{no-length, no-word, read-empty, read-start, start-within}
-use borrow.Author.Needs.{needs}
 use Rattle.reading.proofs.read.Statement.{statement}
 use Rattle.reading.proofs.read.Tie as tie
 
-abbrev text : tie.Start → List ℕ
-text a = a .args .s .now
+abbrev text : tie.After-start-of → List ℕ
+text c = c .before .before .before .before .args .s .now
 
-some : (c : tie.Else1) → 0 < length (text (c .before .before))
-some c = omega (arith, c .if1 .left)
+abbrev letters : tie.After-start-of → List ℕ
+letters c = map lower (drop (c .start-of .result) (text c))
 
-within : (c : tie.After-start-of) → c .start-of .result ≤ length (text (c .before .before .before .before))
-within c = rw (c .start-of .ensures) (start-within (text (c .before .before .before .before)) (getD (text (c .before .before .before .before)) 0 0) (some (c .before .before)))
+some : (c : tie.After-start-of) → 0 < length (text c)
+some c = omega (arith, c .before .before .if1 .left)
 
--- what is left to do after step 1, and after step 2
-step1 : (c : tie.After-start-of) → readText (text (c .before .before .before .before)) ≡ step2 (eqb (getD (text (c .before .before .before .before)) 0 0) 45) (map lower (drop (c .start-of .result) (text (c .before .before .before .before))))
-step1 c = read-start _ (some (c .before .before)) ∙ rw (c .start-of .ensures)
+within : (c : tie.After-start-of) → c .start-of .result ≤ length (text c)
+within c = start-within (text c) (some c) _ (c .start-of .ensures)
 
-abbrev letters : tie.Else2 → List ℕ
-letters c = map lower (drop (c .before .before .before .start-of .result) (text (c .before .before .before .before .before .before .before)))
+-- what is left to do after step 1
+step1 : (c : tie.After-start-of) → readText (text c) ≡ step2 (eqb (getD (text c) 0 0) 45) (letters c)
+step1 c = read-start (text c) (some c) _ (c .start-of .ensures)
 
-steps : (c : tie.Else2) → readText (text (c .before .before .before .before .before .before .before)) ≡ step3 (eqb (getD (text (c .before .before .before .before .before .before .before)) 0 0) 45) (before 101 (letters c)) (from 101 (letters c))
+-- and after step 2, where a digit or a point stands first
+abbrev started : tie.Else2 → tie.After-start-of
+started c = c .before .before .before
+
+steps : (c : tie.Else2) → readText (text (started c)) ≡ step3 (eqb (getD (text (started c)) 0 0) 45) (before 101 (letters (started c))) (from 101 (letters (started c)))
 steps c =
-    let r = c .before .before .scan in
-    let n : length (decimals (drop (c .before .before .before .start-of .result) (text (c .before .before .before .before .before .before .before)))) ≡ 0 → ⊥ =
-    λ z. c .if2 .left (r .ensures .stop ∙ omega arith) in
-    step1 (c .before .before .before) ∙ no-word _ _ n
+    let n : length (decimals (drop (started c .start-of .result) (text (started c)))) ≡ 0 → ⊥ =
+    λ z. c .if2 .left (c .before .before .scan .ensures .stop ∙ omega arith) in
+    step1 (started c) ∙ no-word _ _ n
 
 returns : tie.Need-returns
 unfolding named

@@ -1,11 +1,11 @@
-use Prim.Native.Nat.{_+_, _^_, _≤_, _<_}
 use mathlib.Core.Path.{_≡_, sym, _∙_}
+use Prim.Native.Nat.{_+_, _^_, _≤_, _<_}
 use native.Mathlib.Omega.{arith}
 use lib.ListN.{length, getD}
+use borrow.Author.Needs.{needs}
 use Rattle.meaning.specs.Reading.{lower}
 use Rattle.reading.proofs.Points.{stop-low, stop-within}
 use Rattle.reading.proofs.Shifts.{end-wrong, end-right, other-wrong, split-empty, split-wrong, split-exponent}
-use borrow.Author.Needs.{needs}
 use Rattle.reading.proofs.shift.Statement.{statement}
 use Rattle.reading.proofs.shift.Tie as tie
 

@@ -1,5 +1,4 @@
 use borrow.Author.Tests.{eq-eqb, ne-eqb}
-use borrow.Author.Needs.{needs}
 use Rattle.reading.proofs.start_of.Statement.{statement}
 use Rattle.reading.proofs.start_of.Tie as tie
 

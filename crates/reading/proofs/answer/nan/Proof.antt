@@ -1,7 +1,6 @@
 use mathlib.Core.Path.{refl}
 use Rattle.layout.specs.Unpacked.{meant}
 use Rattle.reading.specs.Told.{told}
-use borrow.Author.Needs.{needs}
 use Rattle.reading.proofs.answer.nan.Statement.{statement}
 use Rattle.reading.proofs.answer.nan.Tie as tie
 

@@ -1,10 +1,8 @@
+use native.Mathlib.Omega.{arith}
 use lib.Dec.{lit≤, lit<}
-use mathlib.Core.Path.{refl}
+use borrow.Author.Tests.{ne-eqb}
 use Rattle.layout.specs.Unpacked.{meant}
 use Rattle.reading.specs.Told.{told}
-use borrow.Author.Tests.{ne-eqb}
-use native.Mathlib.Omega.{arith}
-use borrow.Author.Needs.{needs}
 use Rattle.reading.proofs.answer.refused.Statement.{statement}
 use Rattle.reading.proofs.answer.refused.Tie as tie
 

@@ -1,11 +1,11 @@
-use Prim.Native.Nat.{ℕ, _-_, _≤_}
-use mathlib.Core.Path.{_≡_, refl, sym, ap, _∙_}
+use Prim.Native.Nat.{_-_}
 use native.Mathlib.Omega.{arith}
-use Rattle.reading.specs.Scan.{Short}
-use Rattle.reading.proofs.Points.{stop-low, points-width, walked, short-digits, short-length}
-use Rattle.reading.proofs.Cut.{stands-in, stands-raised, field-most}
-use Rattle.reading.proofs.Steps.{steps-short, number-most}
 use borrow.Author.Needs.{needs}
+use Rattle.limbs.proofs.Shifts.{stands-raised}
+use Rattle.reading.specs.Run.{Short}
+use Rattle.reading.proofs.Points.{stop-low, points-width, walked, short-digits, short-length}
+use Rattle.reading.proofs.Cut.{stands-in, field-most}
+use Rattle.reading.proofs.Steps.{steps-short, number-most}
 use Rattle.reading.proofs.round.finite.Statement.{statement}
 use Rattle.reading.proofs.round.finite.Tie as tie
 

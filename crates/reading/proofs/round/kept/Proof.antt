@@ -1,8 +1,9 @@
-use Prim.Native.Nat.{_*_, _^_, _<_}
-use mathlib.Core.Path.{_≡_, sym, _∙_}
+use mathlib.Core.Path.{_≡_, _∙_}
 use mathlib.Core.Bool.{true}
+use Prim.Native.Nat.{_*_, _^_, _<_}
 use native.Mathlib.Omega.{arith}
 use borrow.Author.Tests.{lt-ltb}
+use borrow.Author.Needs.{needs}
 use Rattle.meaning.specs.Reading.{allDigits}
 use Rattle.meaning.proofs.Numbers.{number-lt, pow-pos}
 use Rattle.limbs.specs.Value.{value}
@@ -10,7 +11,6 @@ use Rattle.reading.specs.Run.{run}
 use Rattle.reading.specs.Told.{named}
 use Rattle.reading.proofs.Points.{walked-digits}
 use Rattle.reading.proofs.Steps.{step11-point, step11-digits, padded-lt}
-use borrow.Author.Needs.{needs}
 use Rattle.reading.proofs.round.kept.Statement.{statement}
 use Rattle.reading.proofs.round.kept.Tie as tie
 

@@ -1,20 +1,19 @@
 use mathlib.Core.Bool.{cond}
 use mathlib.Core.List.{List, _++_}
+use mathlib.Core.Path.{_≡_, refl}
+use Prim.Native.Nat.{ℕ, _+_, _^_, _≤_, _<_}
+use native.Mathlib.Omega.{arith}
 use lib.ListN.{length, take, replicate}
+use borrow.Author.Needs.{needs}
 use Rattle.meaning.specs.Reading.{low, allZeros, step9, step11}
 use Rattle.meaning.specs.Reading.Reading.{refused}
 use Rattle.meaning.specs.Refusals.Refusal.{inexactRounding}
 use Rattle.limbs.specs.declared.wide.Stand.{Stand}
-use Rattle.reading.specs.Run.{run}
-use Rattle.reading.proofs.Walk.{zeros-not, zeros-only}
-use Prim.Native.Nat.{ℕ, _+_, _^_, _≤_, _<_}
-use mathlib.Core.Path.{_≡_, refl, sym, ap, _∙_}
-use native.Mathlib.Omega.{arith}
-use borrow.Author.Tests.{eq-eqb, ne-eqb}
 use Rattle.limbs.specs.Wide.{Raised}
+use Rattle.reading.specs.Run.{run}
 use Rattle.reading.specs.Told.{named}
+use Rattle.reading.proofs.Walk.{zeros-not, zeros-only}
 use Rattle.reading.proofs.Cut.{run-short, cut-within, end-within, kept-length, placed-below, placed-above, placed-left, field-most}
-use borrow.Author.Needs.{needs}
 use Rattle.reading.proofs.round.placed.Statement.{statement}
 use Rattle.reading.proofs.round.placed.Tie as tie
 

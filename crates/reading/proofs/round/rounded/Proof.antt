@@ -1,19 +1,20 @@
-use Prim.Native.Nat.{ℕ, _+_, _-_, _^_, _≤_, _<_}
-use mathlib.Core.Path.{_≡_, refl, sym, ap, _∙_}
+use mathlib.Core.Path.{_≡_, sym, ap, _∙_}
 use mathlib.Core.Bool.{cond}
 use mathlib.Core.List.{List}
+use Prim.Native.Nat.{ℕ, _+_, _-_, _^_, _≤_, _<_}
 use native.Mathlib.Omega.{arith}
 use lib.Dec.{lit<}
 use lib.ListN.{length, take}
+use borrow.Author.Needs.{needs}
 use Rattle.meaning.specs.Reading.{allZeros, stripZeros, step7, step9}
 use Rattle.meaning.specs.Reading.Reading.{refused}
 use Rattle.meaning.specs.Refusals.Refusal.{inexactRounding}
+use Rattle.limbs.proofs.Shifts.{stands-raised}
 use Rattle.reading.specs.Run.{run, ZerosTo}
 use Rattle.reading.specs.Told.{named}
 use Rattle.reading.proofs.Walk.{length-run, zeros-not, zeros-only}
 use Rattle.reading.proofs.Points.{walked-from}
-use Rattle.reading.proofs.Cut.{counted-most, sum-fits, keep-within, keep-most, stands-raised, step7-none, step7-some, rounded-left, field-most}
-use borrow.Author.Needs.{needs}
+use Rattle.reading.proofs.Cut.{counted-most, sum-fits, keep-within, keep-most, step7-none, step7-some, rounded-left, field-most}
 use Rattle.reading.proofs.round.rounded.Statement.{statement}
 use Rattle.reading.proofs.round.rounded.Tie as tie
 

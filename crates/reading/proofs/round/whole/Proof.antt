@@ -1,12 +1,12 @@
+use mathlib.Core.Path.{_≡_, ap, _∙_}
 use Prim.Native.Nat.{ℕ, _+_, _≤_, min}
-use mathlib.Core.Path.{_≡_, sym, ap, _∙_}
 use native.Mathlib.Omega.{arith}
 use lib.Seq.{slice}
+use borrow.Author.Needs.{needs}
 use Rattle.meaning.specs.Reading.{number}
 use Rattle.limbs.specs.Value.{value}
 use Rattle.reading.specs.Scan.{unpointed}
 use Rattle.reading.proofs.Points.{stop-low, stop-within, short-value, rest-digits, rest-few, rest-small, rest-number}
-use borrow.Author.Needs.{needs}
 use Rattle.reading.proofs.round.whole.Statement.{statement}
 use Rattle.reading.proofs.round.whole.Tie as tie
 

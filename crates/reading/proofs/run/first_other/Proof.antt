@@ -1,9 +1,7 @@
-use Prim.Native.Nat.{_-_}
 use mathlib.Core.Logic.{⊎-elim}
-use mathlib.Core.Path.{_≡_}
-use Rattle.meaning.proofs.Numbers.{le-or}
-use Rattle.reading.proofs.Walk.{ZerosAt, zeros-none, zeros-point, zeros-zero, zeros-other, zeros-all}
+use Prim.Native.Nat.{_-_}
 use borrow.Author.Needs.{needs}
+use Rattle.reading.proofs.Walk.{ZerosAt, zeros-none, zeros-point, zeros-zero, zeros-other, zeros-all}
 use Rattle.reading.proofs.run.first_other.Statement.{statement}
 use Rattle.reading.proofs.run.first_other.Tie as tie
 

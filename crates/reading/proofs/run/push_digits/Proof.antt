@@ -1,11 +1,11 @@
-use Prim.Native.Nat.{ℕ, _-_, _≤_}
-use lib.ListN.{getD}
 use mathlib.Core.Logic.{⊎-elim}
-use mathlib.Core.Path.{_≡_, refl, sym, ap, _∙_}
+use mathlib.Core.Path.{refl, ap, _∙_}
+use Prim.Native.Nat.{ℕ, _-_, _≤_}
 use native.Mathlib.Omega.{arith}
+use lib.ListN.{getD}
+use borrow.Author.Needs.{needs}
 use Rattle.limbs.specs.Value.{value}
 use Rattle.reading.proofs.Walk.{NumberAt, number-point, number-byte, number-fits, number-digit, number-end}
-use borrow.Author.Needs.{needs}
 use Rattle.reading.proofs.run.push_digits.Statement.{statement}
 use Rattle.reading.proofs.run.push_digits.Tie as tie
 

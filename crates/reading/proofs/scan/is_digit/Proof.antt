@@ -1,5 +1,4 @@
 use borrow.Author.Tests.{le-leb, lt-leb}
-use borrow.Author.Needs.{needs}
 use Rattle.reading.proofs.scan.is_digit.Statement.{statement}
 use Rattle.reading.proofs.scan.is_digit.Tie as tie
 

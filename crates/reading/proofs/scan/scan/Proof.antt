@@ -1,9 +1,9 @@
-use mathlib.Core.Path.{_≡_, sym, ap, _∙_}
+use mathlib.Core.Path.{_≡_}
 use mathlib.Core.Logic.{inl}
 use Prim.Native.Nat.{_+_}
 use native.Mathlib.Omega.{arith}
-use Rattle.reading.proofs.Pass.{scanned-short, scanned-long}
 use borrow.Author.Needs.{needs}
+use Rattle.reading.proofs.Pass.{scanned-short, scanned-long}
 use Rattle.reading.proofs.scan.scan.Statement.{statement}
 use Rattle.reading.proofs.scan.scan.Tie as tie
 

@@ -1,13 +1,14 @@
-use borrow.Author.Tests.{not-true, not-false}
-use Prim.Native.Nat.{ℕ, _≤_, _-_}
 use mathlib.Core.Path.{_≡_, refl, sym, ap, _∙_}
 use mathlib.Core.Logic.{inl, inr, ⊎-elim}
+use Prim.Native.Nat.{ℕ, _≤_, _-_}
 use native.Mathlib.Omega.{arith}
 use lib.ListN.{length}
+use borrow.Author.Tests.{not-true, not-false}
+use borrow.Author.Needs.{needs}
 use Rattle.reading.specs.declared.scan.Found.{Found}
 use Rattle.reading.specs.Scan.{Passing}
-use Rattle.reading.proofs.Pass.{passing-digit, passing-point, neither}
-use borrow.Author.Needs.{needs}
+use Rattle.reading.proofs.Bytes.{neither}
+use Rattle.reading.proofs.Pass.{passing-digit, passing-point}
 use Rattle.reading.proofs.scan.scan_on.Statement.{statement}
 use Rattle.reading.proofs.scan.scan_on.Tie as tie
 

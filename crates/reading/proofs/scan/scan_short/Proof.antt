@@ -1,13 +1,14 @@
+use mathlib.Core.Path.{sym, _∙_}
+use mathlib.Core.Logic.{inr, ⊎-elim}
 use Prim.Native.Nat.{_≤_, _-_, _<_}
-use mathlib.Core.Path.{_≡_, sym, _∙_}
-use mathlib.Core.Logic.{inl, inr, ⊎-elim}
 use native.Mathlib.Omega.{arith}
-use lib.ListN.{length}
-use Rattle.meaning.proofs.Numbers.{byte-digit, pow-le}
 use native.Mathlib.Nat.{lt-of-lt-of-le}
-use Rattle.reading.specs.Scan.{Passing, Added}
-use Rattle.reading.proofs.Pass.{passing-none, passing-digit, passing-point, added-none, added-digit, added-point, neither}
+use lib.ListN.{length}
 use borrow.Author.Needs.{needs}
+use Rattle.meaning.proofs.Numbers.{byte-digit, pow-le}
+use Rattle.reading.specs.Scan.{Passing, Added}
+use Rattle.reading.proofs.Bytes.{neither}
+use Rattle.reading.proofs.Pass.{passing-none, passing-digit, passing-point, added-none, added-digit, added-point}
 use Rattle.reading.proofs.scan.scan_short.Statement.{statement}
 use Rattle.reading.proofs.scan.scan_short.Tie as tie
 
@@ -30,7 +31,6 @@ with-digit-requires c κs =
 returns : tie.Need-returns Inv-loop μ-loop
 returns c =
     let l = c .before .before .before .before .before .loop in
-    let h = c .before .before .before .before .loop-test .taken in
     ((l .inv .1, l .inv .2), (l .inv .0, λ _. inr (neither _ (sym (c .before .before .is-digit .ensures) ∙ c .before .if1 .left) (c .if2 .taken))))
 
 with-point-requires : tie.Need-with-point-requires Inv-loop μ-loop

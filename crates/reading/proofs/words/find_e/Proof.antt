@@ -1,12 +1,12 @@
-use Prim.Native.Nat.{_≤_, _-_}
 use mathlib.Core.Path.{_≡_, refl, sym, _∙_}
 use mathlib.Core.List.{map}
+use Prim.Native.Nat.{_≤_, _-_}
 use native.Mathlib.Omega.{arith}
 use lib.ListN.{length, drop}
+use borrow.Author.Needs.{needs}
 use Rattle.meaning.specs.Reading.{lower}
 use Rattle.reading.specs.Scan.{firstAt}
 use Rattle.reading.proofs.Letters.{e-here, e-later, e-none}
-use borrow.Author.Needs.{needs}
 use Rattle.reading.proofs.words.find_e.Statement.{statement}
 use Rattle.reading.proofs.words.find_e.Tie as tie
 

@@ -1,12 +1,12 @@
 use mathlib.Core.List.{map}
-use lib.ListN.{length, drop}
-use Rattle.meaning.specs.Reading.{lower, from}
+use mathlib.Core.Path.{_≡_, _∙_}
 use native.Mathlib.Omega.{arith}
-use mathlib.Core.Path.{_≡_, sym, _∙_}
+use lib.ListN.{length, drop}
 use borrow.Author.Tests.{eq-eqb, ne-eqb}
-use Rattle.reading.proofs.Split.{e-length}
-use Rattle.meaning.specs.Refusals.{numberOf}
 use borrow.Author.Needs.{needs}
+use Rattle.meaning.specs.Reading.{lower, from}
+use Rattle.meaning.specs.Refusals.{numberOf}
+use Rattle.reading.proofs.Split.{e-length}
 use Rattle.reading.proofs.words.wrong.Statement.{statement}
 use Rattle.reading.proofs.words.wrong.Tie as tie
 
