@@ -1,4 +1,5 @@
--- What a text reads as: document 01, 'Reading text', steps 1 to 11.
+-- What a text reads as: document 01, 'Reading text', steps 1 to 11, which are the rules of MongoDB's specification
+-- source/bson-decimal128, 'From String Representation', in the order in which they are carried out.
 --
 -- A text is the list of its bytes, whatever they are. A step's definition ends by calling the next step's, so the file has
 -- them from the last to the first. No number here is negative: an exponent x stands as x + 2^127.

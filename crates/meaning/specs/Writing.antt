@@ -1,4 +1,5 @@
--- The text of a value and the debug form of its bytes: document 01, 'Writing text'.
+-- The text of a value and the debug form of its bytes: document 01, 'Writing text', from MongoDB's specification
+-- source/bson-decimal128, 'To String Representation'.
 use Prim.Native.Nat.{ℕ, zero, suc, _+_, _-_, _/_, _%_}
 use mathlib.Core.Bool.{Bool, true, false, cond, _&&_}
 use mathlib.Core.List.{List, [], _∷_, _++_}
