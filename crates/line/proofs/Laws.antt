@@ -11,12 +11,8 @@ use lib.Seq.{slice, slice-cons, slice-empty}
 use borrow.Author.Tests.{eq-eqb, ne-eqb}
 use Rattle.meaning.specs.Reading.{holds}
 use Rattle.meaning.specs.Stream.{recordsOf, linesAfter}
-use Rattle.line.specs.Feed.{done, left, doneAll, joined, ChunksDoNotMatter, NextLf}
-
--- a test by its two outcomes
-by-test : {P : Type 0} (t : Bool) → (t ≡ true → P) → (t ≡ false → P) → P
-by-test true f g = f refl
-by-test false f g = g refl
+use Rattle.meaning.proofs.Numbers.{by-test, neither-of}
+use Rattle.line.specs.Feed.{done, left, NextLf}
 
 -- ---- one chunk after another
 
@@ -43,30 +39,20 @@ left-append p [] t = refl
 left-append p (b ∷ s) t =
     by-test (eqb b 10) (λ e. rw e (left-append [] s t)) (λ e. rw e (left-append (p ++ (b ∷ [])) s t))
 
-pub chunks-do-not-matter : ChunksDoNotMatter
-unfolding doneAll joined
-chunks-do-not-matter f p [] = refl
-chunks-do-not-matter f p (c ∷ cs) =
-    ap (λ (l : List ℕ). done f p c ++ l) (chunks-do-not-matter f (left p c) cs) ∙ records-after f p c (joined cs)
-
 -- ---- a part without LF
-
-none-of : (a b : Bool) → (a || b) ≡ false → (a ≡ false) × (b ≡ false)
-none-of true b e = absurd (true≢false e)
-none-of false b e = (refl, e)
 
 module _ (f : List ℕ → List ℕ) where
   pub done-none : (p s : List ℕ) → holds 10 s ≡ false → done f p s ≡ []
   unfolding done holds
   done-none p [] h = refl
   done-none p (b ∷ s) h =
-      let n = none-of (eqb b 10) (holds 10 s) h in rw (n .0) (done-none (p ++ (b ∷ [])) s (n .1))
+      let n = neither-of (eqb b 10) (holds 10 s) h in rw (n .0) (done-none (p ++ (b ∷ [])) s (n .1))
 
 pub left-none : (p s : List ℕ) → holds 10 s ≡ false → left p s ≡ p ++ s
 unfolding left holds
 left-none p [] h = sym (append-nil p)
 left-none p (b ∷ s) h =
-    let n = none-of (eqb b 10) (holds 10 s) h in
+    let n = neither-of (eqb b 10) (holds 10 s) h in
     rw (n .0) (left-none (p ++ (b ∷ [])) s (n .1) ∙ append-assoc p (b ∷ []) s)
 
 -- ---- the search for LF

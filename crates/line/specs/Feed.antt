@@ -8,6 +8,8 @@ use lib.ListN.{length, take, getD}
 use lib.Seq.{slice}
 use Rattle.meaning.specs.Reading.{holds}
 use Rattle.meaning.specs.Stream.{recordsOf, linesAfter}
+use Rattle.line.specs.declared.Fed.{Fed}
+use Rattle.line.specs.Wrote.{Wrote}
 
 -- the records of the lines that end in s, where p stands before it in its first line; f gives a line's record
 unfoldable pub done : (List ℕ → List ℕ) → List ℕ → List ℕ → List ℕ
@@ -18,20 +20,6 @@ done f p (b ∷ s) = cond (eqb b 10) (f p ++ done f [] s) (done f (p ++ (b ∷ [
 unfoldable pub left : List ℕ → List ℕ → List ℕ
 left p [] = p
 left p (b ∷ s) = cond (eqb b 10) (left [] s) (left (p ++ (b ∷ [])) s)
-
--- what is written of chunks that come one after the other, and of the last line
-unfoldable pub doneAll : (List ℕ → List ℕ) → List ℕ → List (List ℕ) → List ℕ
-doneAll f p [] = recordsOf f (linesAfter p [])
-doneAll f p (c ∷ cs) = done f p c ++ doneAll f (left p c) cs
-
-unfoldable pub joined : List (List ℕ) → List ℕ
-joined [] = []
-joined (c ∷ cs) = c ++ joined cs
-
--- however a stream is cut into chunks, what is written is the records of the whole
-abbrev pub ChunksDoNotMatter : Type 0
-ChunksDoNotMatter =
-    (f : List ℕ → List ℕ) (p : List ℕ) (cs : List (List ℕ)) → doneAll f p cs ≡ recordsOf f (linesAfter p (joined cs))
 
 -- the next LF of s from i on stands at r; where there is none r is the length
 pub record NextLf (s : List ℕ) (i r : ℕ) : Type 0 where
@@ -44,3 +32,19 @@ pub record NextLf (s : List ℕ) (i r : ℕ) : Type 0 where
 pub record Holds (line : List ℕ) (len : ℕ) (p : List ℕ) : Type 0 where
   pub short : len ≤ 4096 → p ≡ take len line
   pub long : 4096 < len → 4096 < length p
+
+-- ---- what a call of `feed` does, from a to b: the chunk is read from `a .from` to `b .from`
+
+-- where p stands before: the records of the lines that ended, behind those of before, and what is left of p and the part
+pub record Took (f : List ℕ → List ℕ) (p part : List ℕ) (a : Fed) (out : List ℕ) (b : Fed) (line′ out′ : List ℕ) : Type 0 where
+  pub wrote : Wrote (a .count) (done f p part) out (b .count) out′
+  pub holds : Holds line′ (b .len) (left p part)
+
+pub record Feeds (f : List ℕ → List ℕ) (chunk : List ℕ) (a : Fed) (line out : List ℕ) (b : Fed) (line′ out′ : List ℕ) : Type 0 where
+  pub on : a .from ≤ b .from
+  pub within : a .from ≤ length chunk → b .from ≤ length chunk
+  pub took : (p : List ℕ) → Holds line (a .len) p → Took f p (slice (a .from) (b .from) chunk) a out b line′ out′
+
+-- the record of the last line
+abbrev pub Finishes : (List ℕ → List ℕ) → (line : List ℕ) (len : ℕ) (out : List ℕ) → ℕ → List ℕ → Type 0
+Finishes f line len out r out′ = (p : List ℕ) → Holds line len p → Wrote 0 (recordsOf f (linesAfter p [])) out r out′

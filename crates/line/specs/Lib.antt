@@ -1,1 +1,4 @@
 pub mod Feed
+pub mod Wanted
+pub mod Wrote
+pub mod Session

@@ -1,20 +1,23 @@
-// A stream of bytes cut into lines, and the record of each.
-ghost use mathlib.Core.Path.{_≡_};
-ghost use Prim.Native.Nat.{_≤_};
-ghost use lib.ListN.{length};
-ghost use Rattle.line.specs.Feed.{NextLf};
+// A stream of bytes cut into lines, and the record of each: document 01, 'The line program'.
+mod feeding;
+pub mod program;
+mod puts;
+mod records;
+mod stored;
 
-// The offset of the next LF from `from` on, or the length.
-fn next_lf(chunk: &[u8], from: usize) -> usize
-    requires { ⌜ from ≤ length (now chunk) ⌝ }
-    ensures { λ r. ⌜ NextLf (now (chunk .entry)) from r ⌝ }
-{
-    let mut i = from;
-    while i < chunk.len() {
-        if chunk[i] == 10 {
-            return i;
-        }
-        i += 1;
-    }
-    i
+pub use feeding::feed;
+pub use feeding::finish;
+pub use records::record;
+
+// What is wanted of each line: the record of the text that it is, or of the stored value that its hex digits give.
+pub enum Wanted {
+    Texts,
+    Stored,
+}
+
+// How far a chunk was read, how long the line is that has not ended, how many bytes of records stand in the output.
+pub struct Fed {
+    pub from: usize,
+    pub len: usize,
+    pub count: usize,
 }

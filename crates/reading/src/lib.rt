@@ -19,7 +19,7 @@ pub mod answer;
 mod round;
 mod run;
 mod scan;
-mod words;
+pub mod words;
 
 // F: how many bytes stand after the first point.
 fn fraction(point: usize, stop: usize) -> u64

@@ -4,8 +4,8 @@ use Prim.Native.Nat.{ℕ, _-_, _≤_}
 use lib.ListN.{length}
 use Rattle.line.specs.Feed.{NextLf}
 use Rattle.line.proofs.Laws.{lf-here, lf-later}
-use Rattle.line.proofs.next_lf.Statement.{statement}
-use Rattle.line.proofs.next_lf.Tie as tie
+use Rattle.line.proofs.feeding.next_lf.Statement.{statement}
+use Rattle.line.proofs.feeding.next_lf.Tie as tie
 
 abbrev Inv-loop : tie.InvT-loop
 Inv-loop chunk from i₀ i = (i ≤ length chunk) × ((r : ℕ) → NextLf chunk i r → NextLf chunk from r)

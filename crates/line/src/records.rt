@@ -1,0 +1,46 @@
+// The record of one line, at the front of the lent output: at most 78 bytes for a text, at most 90 for a stored value.
+use crate::Wanted;
+use crate::puts;
+use crate::stored;
+ghost use Prim.Native.Nat.{ℕ, _≤_, _<_};
+ghost use mathlib.Core.List.{List};
+ghost use lib.ListN.{length};
+ghost use Rattle.line.specs.Wrote.{Wrote};
+ghost use Rattle.line.specs.Wanted.{recordFor};
+ghost use Rattle.line.specs.Feed.{Holds};
+
+// The record of any line of more than 4,096 bytes: 10, LineTooLong, of a text.
+fn too_long(wanted: Wanted, out: &mut [u8]) -> usize
+    requires { ⌜ 90 ≤ length (now out) ⌝ }
+    ensures { λ r. ⌜ ((p : List ℕ) → 4096 < length p → Wrote 0 (recordFor wanted p) (now (out .entry)) r (now (out .exit))) ⌝ }
+{
+    match wanted {
+        Wanted::Texts => puts::put_known(out, b"10\t-\t-\n"),
+        Wanted::Stored => stored::malformed(out),
+    }
+}
+
+// The record of a line; its length is given.
+pub fn record(wanted: Wanted, text: &[u8], out: &mut [u8]) -> usize
+    requires { ⌜ 90 ≤ length (now out) ⌝ }
+    ensures { λ r. ⌜ Wrote 0 (recordFor wanted (now (text .entry))) (now (out .entry)) r (now (out .exit)) ⌝ }
+{
+    if 4096 < text.len() {
+        return too_long(wanted, out);
+    }
+    match wanted {
+        Wanted::Texts => puts::put_len(decimal128::record(text, out)),
+        Wanted::Stored => stored::record(text, out),
+    }
+}
+
+// The record of the line that `line` and `len` hold.
+pub fn held(wanted: Wanted, line: &[u8], len: usize, out: &mut [u8]) -> usize
+    requires { ⌜ (4096 ≤ length (now line)) × (90 ≤ length (now out)) ⌝ }
+    ensures { λ r. ⌜ ((p : List ℕ) → Holds (now (line .entry)) len p → Wrote 0 (recordFor wanted p) (now (out .entry)) r (now (out .exit))) ⌝ }
+{
+    if 4096 < len {
+        return too_long(wanted, out);
+    }
+    record(wanted, &line[..len], out)
+}
