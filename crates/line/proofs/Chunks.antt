@@ -1,24 +1,22 @@
 -- Laws of a stream that is handed over in chunks: the line that is held, one step behind another, and a whole session.
 use mathlib.Core.Path.{_≡_, refl, sym, ap, _∙_}
 use mathlib.Core.Logic.{⊎-elim}
-use mathlib.Core.Bool.{Bool, true, false}
 use mathlib.Core.List.{List, [], _∷_, _++_, append-assoc, append-nil}
 use Prim.Native.Nat.{ℕ, _+_, _-_, _≤_, _<_}
 use native.Mathlib.Numerals.{add-one}
 use native.Mathlib.Omega.{arith}
-use lib.Dec.{eqb}
-use lib.ListN.{length, take, drop, getD, replicate, length-replicate, length-append, length-take, take-append-drop}
-use lib.Seq.{slice, slice-empty, slice-cons, length-slice, length-take-le, take-take, drop-append-le, drop-at, take-at, take-add}
-use borrow.Author.Tests.{eq-eqb, ne-eqb}
+use lib.ListN.{length, take, drop, replicate, length-replicate, length-append, length-take, take-append-drop}
+use lib.Seq.{slice, slice-empty, slice-cons, length-take-le, take-take, drop-append-le, drop-at, take-at, take-add}
+use borrow.Author.Tests.{ne-eqb}
 use borrow.Rule.Slice.PartMut.{midOf, putMid}
 use Rattle.meaning.specs.Reading.{holds}
-use Rattle.meaning.specs.Stream.{recordsOf, linesAfter, streamRecords}
+use Rattle.meaning.specs.Stream.{recordsOf, linesAfter}
 use Rattle.meaning.proofs.Numbers.{le-or}
 use Rattle.writing.specs.Written.{written}
 use Rattle.line.specs.declared.Fed.{Fed}
 use Rattle.line.specs.Wrote.{Wrote}
 use Rattle.line.specs.Feed.{done, left, NextLf, Holds, Took, Feeds, Finishes}
-use Rattle.line.proofs.Laws.{records-after, done-append, left-append, done-none, left-none}
+use Rattle.line.proofs.Laws.{done-append, left-append, done-none, left-none}
 use Rattle.line.proofs.Wrote.{wrote-none, wrote-then, wrote-in, length-wrote}
 
 -- ---- parts of a list
@@ -90,7 +88,7 @@ module _ (f : List ℕ → List ℕ) {line p : List ℕ} {len : ℕ} (long : 409
   unfolding recordsOf linesAfter
   last-line z =
       let n : length p ≡ 0 → ⊥ =
-          λ e. ⊎-elim (λ k. let l = length-held long h k in omega arith) (λ k. let l = h .long k in omega arith) (le-or len 4096) in
+      λ e. ⊎-elim (λ k. let l = length-held long h k in omega arith) (λ k. let l = h .long k in omega arith) (le-or len 4096) in
       rw (ne-eqb (length p) 0 n, append-nil)
 
 pub no-last-line : (f : List ℕ → List ℕ) {line p : List ℕ} → Holds line 0 p → [] ≡ recordsOf f (linesAfter p [])

@@ -1,7 +1,7 @@
 -- Laws of hex digits: a line that is read digit by digit, and two digits a byte.
 use mathlib.Core.Path.{_≡_, refl, sym, ap, _∙_}
 use mathlib.Core.Bool.{Bool, true, false, cond, _&&_, true≢false}
-use mathlib.Core.List.{List, [], _∷_, _++_}
+use mathlib.Core.List.{List, [], _∷_}
 use Prim.Native.Nat.{ℕ, zero, suc, _+_, _-_, _*_, _≤_, _<_}
 use native.Mathlib.Numerals.{add-one}
 use native.Mathlib.Omega.{arith}
@@ -85,7 +85,7 @@ unhex-at (a ∷ b ∷ s) (suc i) h =
 module _ (s b : List ℕ) (i : ℕ) (digits : length s ≡ 32) (bytes : length b ≡ 16) (so-far : take i b ≡ take i (unhex s)) where
   pub next-byte : i < 16 → take (i + 1) (set b i (16 * hexValue (getD s (2 * i) 0) + hexValue (getD s (2 * i + 1) 0))) ≡ take (i + 1) (unhex s)
   next-byte h =
-      rw (add-one, take-suc-set b i _ (omega arith), so-far, ← unhex-at s i (omega arith), ← take-suc (unhex s) i 0 (omega (arith, length-unhex 16 s digits)))
+      rw (add-one i, take-suc-set b i _ (omega arith), so-far, ← unhex-at s i (omega arith), ← take-suc (unhex s) i 0 (omega (arith, length-unhex 16 s digits)))
 
   pub all-bytes : 16 ≤ i → b ≡ unhex s
   all-bytes h =

@@ -1,6 +1,6 @@
 -- Laws of `done` and `left`: chunks follow one another, and lines end at LF.
 use mathlib.Core.Path.{_≡_, refl, sym, ap, _∙_}
-use mathlib.Core.Bool.{Bool, true, false, cond, _||_, true≢false}
+use mathlib.Core.Bool.{Bool, true, false, _||_, true≢false}
 use mathlib.Core.List.{List, [], _∷_, _++_, append-assoc, append-nil}
 use Prim.Native.Nat.{ℕ, _+_, _≤_, _<_}
 use native.Mathlib.Numerals.{add-one}
@@ -8,7 +8,7 @@ use native.Mathlib.Omega.{arith}
 use lib.Dec.{eqb}
 use lib.ListN.{length, getD}
 use lib.Seq.{slice, slice-cons, slice-empty}
-use borrow.Author.Tests.{eq-eqb, ne-eqb}
+use borrow.Author.Tests.{ne-eqb}
 use Rattle.meaning.specs.Reading.{holds}
 use Rattle.meaning.specs.Stream.{recordsOf, linesAfter}
 use Rattle.meaning.proofs.Numbers.{by-test, neither-of}

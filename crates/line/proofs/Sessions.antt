@@ -1,9 +1,9 @@
 -- Whoever feeds a stream by the contract of `feed` writes the records of the whole, however it is cut.
-use mathlib.Core.Path.{_≡_, refl, sym, ap, _∙_}
-use mathlib.Core.List.{List, [], _∷_, _++_, append-assoc}
-use Prim.Native.Nat.{ℕ, _+_, _≤_, _<_}
+use mathlib.Core.Path.{_≡_, sym, ap, _∙_}
+use mathlib.Core.List.{List, [], _++_, append-assoc}
+use Prim.Native.Nat.{ℕ, _+_}
 use native.Mathlib.Omega.{arith}
-use lib.ListN.{length, take, drop, drop-of-length-le}
+use lib.ListN.{drop, drop-of-length-le}
 use lib.Seq.{slice}
 use Rattle.meaning.specs.Stream.{recordsOf, linesAfter, streamRecords}
 use Rattle.line.specs.Feed.{left, Holds}

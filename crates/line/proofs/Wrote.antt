@@ -10,7 +10,7 @@ use lib.Seq.{take-all, take-at, drop-drop, length-take-le}
 use borrow.Author.Tests.{le-leb, lt-leb, ne-eqb, eq-eqb}
 use borrow.Rule.Slice.PartMut.{midOf, putMid}
 use Rattle.meaning.specs.Refusals.{numberOf}
-use Rattle.meaning.specs.Refusals.Refusal.{lineTooLong, malformedBytes}
+use Rattle.meaning.specs.Refusals.Refusal.{malformedBytes}
 use Rattle.meaning.specs.Layout.{stored, decode}
 use Rattle.meaning.specs.Reading.{readText}
 use Rattle.meaning.specs.Reading.Reading.{refused}

@@ -1,7 +1,7 @@
 -- A stream that is fed chunk by chunk, and finished: what the programs do with `feed` and `finish`, by their contracts.
-use Prim.Native.Nat.{ℕ, _≤_, _<_}
 use mathlib.Core.Path.{_≡_}
 use mathlib.Core.List.{List, [], _∷_, _++_}
+use Prim.Native.Nat.{ℕ, _≤_, _<_}
 use lib.ListN.{length, take}
 use Rattle.meaning.specs.Stream.{streamRecords}
 use Rattle.line.specs.declared.Fed.{Fed}

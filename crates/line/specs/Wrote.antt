@@ -1,7 +1,7 @@
 -- A text in the lent output, and the record of a stored value.
-use Prim.Native.Nat.{ℕ, _+_, _≤_}
 use mathlib.Core.Path.{_≡_}
 use mathlib.Core.List.{List, [], _∷_, _++_}
+use Prim.Native.Nat.{ℕ, _+_, _≤_}
 use lib.ListN.{length}
 use Rattle.meaning.specs.Layout.{stored, decode}
 use Rattle.meaning.specs.Writing.{writeText, debugText}

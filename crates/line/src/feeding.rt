@@ -4,12 +4,10 @@ use crate::Fed;
 use crate::Wanted;
 use crate::records;
 use writing::pieces;
-ghost use mathlib.Core.Path.{_≡_};
-ghost use mathlib.Core.List.{List, [], _++_};
+ghost use mathlib.Core.List.{List, _++_};
 ghost use Prim.Native.Nat.{ℕ, _+_, _≤_, _<_};
 ghost use lib.ListN.{length};
 ghost use lib.Seq.{slice};
-ghost use Rattle.meaning.specs.Stream.{linesAfter, recordsOf};
 ghost use Rattle.line.specs.Wrote.{Wrote};
 ghost use Rattle.line.specs.Wanted.{recordFor};
 ghost use Rattle.line.specs.Feed.{NextLf, Holds, Feeds, Finishes};
@@ -45,7 +43,15 @@ fn gather(line: &mut [u8], len: usize, chunk: &[u8], from: usize, to: usize) -> 
 }
 
 // The record of the line that ends at `to`.
-fn ended(wanted: Wanted, chunk: &[u8], from: usize, to: usize, line: &mut [u8], len: usize, out: &mut [u8]) -> usize
+fn ended(
+    wanted: Wanted,
+    chunk: &[u8],
+    from: usize,
+    to: usize,
+    line: &mut [u8],
+    len: usize,
+    out: &mut [u8],
+) -> usize
     requires { ⌜ (4096 ≤ length (now line)) × (from ≤ to) × (to ≤ length (now chunk)) × (90 ≤ length (now out)) ⌝ }
     ensures { λ r. ⌜ ((p : List ℕ) → Holds (now (line .entry)) len p → Wrote 0 (recordFor wanted (p ++ slice from to (now (chunk .entry)))) (now (out .entry)) r (now (out .exit))) ⌝ }
 {
@@ -84,7 +90,14 @@ fn advance(wanted: Wanted, chunk: &[u8], fed: Fed, line: &mut [u8], out: &mut [u
 
 // Takes lines from `from` on while they last and while `out` has room for a record. What it wrote stands at the front of
 // `out`; where the chunk is not used up it is called again.
-pub fn feed(wanted: Wanted, chunk: &[u8], from: usize, line: &mut [u8; 4096], len: usize, out: &mut [u8]) -> Fed
+pub fn feed(
+    wanted: Wanted,
+    chunk: &[u8],
+    from: usize,
+    line: &mut [u8; 4096],
+    len: usize,
+    out: &mut [u8],
+) -> Fed
     ensures { λ r. ⌜ Feeds (recordFor wanted) (now (chunk .entry)) (record { from = from; len = len; count = 0 }) (now (line .entry)) (now (out .entry)) r (now (line .exit)) (now (out .exit)) ⌝ }
     ensures { λ r. ⌜ (from < length (now (chunk .entry)) → 90 ≤ length (now (out .entry)) → from < r .from) ⌝ }
 {

@@ -18,7 +18,8 @@ fn complain(wanted: Wanted, what: &[u8]) {
     match wanted {
         Wanted::Texts => io::write_all(STDERR_FILENO, b"lines: standard "),
         Wanted::Stored => io::write_all(STDERR_FILENO, b"stored: standard "),
-    };
+    }
+    ;
     io::write_all(STDERR_FILENO, what);
 }
 
@@ -34,7 +35,13 @@ fn write(wanted: Wanted, out: &[u8], n: usize) -> bool
 }
 
 // All lines of a block.
-fn drain(wanted: Wanted, block: &[u8], line: &mut [u8; 4096], len: usize, out: &mut [u8; 65536]) -> Went {
+fn drain(
+    wanted: Wanted,
+    block: &[u8],
+    line: &mut [u8; 4096],
+    len: usize,
+    out: &mut [u8; 65536],
+) -> Went {
     let mut from: usize = 0;
     let mut held = len;
     while from < block.len() {
@@ -55,7 +62,14 @@ fn drain(wanted: Wanted, block: &[u8], line: &mut [u8; 4096], len: usize, out: &
 }
 
 // The lines of a block's first n bytes.
-fn drain_first(wanted: Wanted, block: &[u8], n: usize, line: &mut [u8; 4096], len: usize, out: &mut [u8; 65536]) -> Went
+fn drain_first(
+    wanted: Wanted,
+    block: &[u8],
+    n: usize,
+    line: &mut [u8; 4096],
+    len: usize,
+    out: &mut [u8; 65536],
+) -> Went
     requires { ⌜ n ≤ length (now block) ⌝ }
 {
     drain(wanted, &block[..n], line, len, out)
@@ -68,7 +82,13 @@ fn last(wanted: Wanted, line: &[u8; 4096], len: usize, out: &mut [u8; 65536]) {
 }
 
 // One block of the input, or its end.
-fn turn(wanted: Wanted, block: &mut [u8; 65536], line: &mut [u8; 4096], len: usize, out: &mut [u8; 65536]) -> Went {
+fn turn(
+    wanted: Wanted,
+    block: &mut [u8; 65536],
+    line: &mut [u8; 4096],
+    len: usize,
+    out: &mut [u8; 65536],
+) -> Went {
     let got = libc::read(STDIN_FILENO, block);
     if got < 0 {
         complain(wanted, b"input cannot be read\n");

@@ -1,7 +1,7 @@
-use borrow.Author.Needs.{needs}
-use native.Mathlib.Omega.{arith}
 use Prim.Native.Nat.{ℕ, _-_, _≤_}
+use native.Mathlib.Omega.{arith}
 use lib.ListN.{length}
+use borrow.Author.Needs.{needs}
 use Rattle.line.specs.Feed.{NextLf}
 use Rattle.line.proofs.Laws.{lf-here, lf-later}
 use Rattle.line.proofs.feeding.next_lf.Statement.{statement}
