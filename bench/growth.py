@@ -5,7 +5,7 @@ import sys
 
 work, emulator = sys.argv[1:]
 sizes = [40, 400, 4000, 40000]
-# 34 digits and zeros behind them: steps 8 cuts the zeros
+# 34 digits and zeros behind them: step 8 cuts the zeros
 texts = [("%d" % n, "1234567890123456789012345678901234" + "0" * (n - 34)) for n in sizes]
 path = os.path.join(work, "growth.tsv")
 with open(path, "w") as f:
