@@ -10,7 +10,7 @@ use lib.Seq.{slice, slice-empty, slice-cons, length-take-le, take-take, drop-app
 use borrow.Author.Tests.{ne-eqb}
 use borrow.Rule.Slice.PartMut.{midOf, putMid}
 use Rattle.meaning.specs.Reading.{holds}
-use Rattle.meaning.specs.Stream.{recordsOf, linesAfter}
+use Rattle.meaning.specs.Stream.{withoutCr, recordsOf, linesAfter}
 use Rattle.meaning.proofs.Numbers.{le-or}
 use Rattle.writing.specs.Written.{written}
 use Rattle.line.specs.declared.Fed.{Fed}
@@ -41,22 +41,22 @@ rest-split a b l h k =
 
 -- ---- the line that is held
 
-module _ {line p : List ℕ} {len : ℕ} (long : 4096 ≤ length line) (h : Holds line len p) where
-  length-held : len ≤ 4096 → length p ≡ len
+module _ {line p : List ℕ} {len : ℕ} (long : 4097 ≤ length line) (h : Holds line len p) where
+  length-held : len ≤ 4097 → length p ≡ len
   length-held k = ap length (h .short k) ∙ length-take-le len line (omega arith)
 
-  -- more than 4,096 bytes
-  pub held-long : (s line′ : List ℕ) → 4096 < len → Holds line′ 4097 (p ++ s)
+  -- more than 4,097 bytes
+  pub held-long : (s line′ : List ℕ) → 4097 < len → Holds line′ 4098 (p ++ s)
   held-long s line′ k =
       let l = h .long k in
       record { short = λ e. absurd (omega arith); long = λ e. omega (arith, length-append p s) }
 
-  pub held-over : (s line′ : List ℕ) → len ≤ 4096 → 4096 - len < length s → Holds line′ 4097 (p ++ s)
+  pub held-over : (s line′ : List ℕ) → len ≤ 4097 → 4097 - len < length s → Holds line′ 4098 (p ++ s)
   held-over s line′ k o =
       let l = length-held k in
       record { short = λ e. absurd (omega arith); long = λ e. omega (arith, length-append p s) }
 
-  pub held-more : (s : List ℕ) {line′ : List ℕ} (n : ℕ) → len ≤ 4096 → n ≡ len + length s → n ≤ 4096 → line′ ≡ written len s line → Holds line′ n (p ++ s)
+  pub held-more : (s : List ℕ) {line′ : List ℕ} (n : ℕ) → len ≤ 4097 → n ≡ len + length s → n ≤ 4097 → line′ ≡ written len s line → Holds line′ n (p ++ s)
   unfolding written
   held-more s {line′} n k e o f =
       let t = take len line ++ s in
@@ -73,7 +73,7 @@ held-some line len =
     ⊎-elim
     (λ h. (take len line, record { short = λ e. refl; long = λ e. absurd (omega arith) }))
     (λ h. (replicate len 0, record { short = λ e. absurd (omega arith); long = λ e. rw length-replicate h }))
-    (le-or len 4096)
+    (le-or len 4097)
 
 -- nothing is held
 pub held-none : {line p : List ℕ} → Holds line 0 p → p ≡ []
@@ -83,12 +83,12 @@ pub holds-none : (line : List ℕ) → Holds line 0 []
 holds-none line = record { short = λ e. refl; long = λ e. absurd (omega arith) }
 
 -- the last line
-module _ (f : List ℕ → List ℕ) {line p : List ℕ} {len : ℕ} (long : 4096 ≤ length line) (h : Holds line len p) where
-  pub last-line : 0 < len → f p ≡ recordsOf f (linesAfter p [])
+module _ (f : List ℕ → List ℕ) {line p : List ℕ} {len : ℕ} (long : 4097 ≤ length line) (h : Holds line len p) where
+  pub last-line : 0 < len → f (withoutCr p) ≡ recordsOf f (linesAfter p [])
   unfolding recordsOf linesAfter
   last-line z =
       let n : length p ≡ 0 → ⊥ =
-      λ e. ⊎-elim (λ k. let l = length-held long h k in omega arith) (λ k. let l = h .long k in omega arith) (le-or len 4096) in
+      λ e. ⊎-elim (λ k. let l = length-held long h k in omega arith) (λ k. let l = h .long k in omega arith) (le-or len 4097) in
       rw (ne-eqb (length p) 0 n, append-nil)
 
 pub no-last-line : (f : List ℕ → List ℕ) {line p : List ℕ} → Holds line 0 p → [] ≡ recordsOf f (linesAfter p [])
@@ -111,7 +111,7 @@ module _ (f : List ℕ → List ℕ) (s : List ℕ) (i r : ℕ) (n : NextLf s i 
         ∙ ap (λ (l : List ℕ). slice i r s ++ l)
         (rw (slice-cons r (r + 1) s 0 (omega arith) (omega arith), n .here h, add-one, slice-empty))
 
-    pub done-to-lf : done f p (slice i (r + 1) s) ≡ f (p ++ slice i r s)
+    pub done-to-lf : done f p (slice i (r + 1) s) ≡ f (withoutCr (p ++ slice i r s))
     unfolding done
     done-to-lf = rw (with-lf, done-append f p (slice i r s) (10 ∷ []), done-to-end, left-to-end) (append-nil _)
 
@@ -134,7 +134,7 @@ module _ (f : List ℕ → List ℕ) (chunk : List ℕ) (a : Fed) {r : ℕ} (n :
       }
 
   -- to behind LF
-  pub to-lf : {w : ℕ} {o : List ℕ} → r < length chunk → ((p : List ℕ) → Holds line (a .len) p → Wrote 0 (f (p ++ slice (a .from) r chunk)) (midOf (a .count) (length out - a .count) out) w o) → Feeds f chunk a line out (record { from = r + 1; len = 0; count = a .count + w }) line′ (putMid (a .count) (length out - a .count) out o)
+  pub to-lf : {w : ℕ} {o : List ℕ} → r < length chunk → ((p : List ℕ) → Holds line (a .len) p → Wrote 0 (f (withoutCr (p ++ slice (a .from) r chunk))) (midOf (a .count) (length out - a .count) out) w o) → Feeds f chunk a line out (record { from = r + 1; len = 0; count = a .count + w }) line′ (putMid (a .count) (length out - a .count) out o)
   to-lf l h =
       record {
         on = omega (arith, n .after);

@@ -10,7 +10,7 @@ use lib.ListN.{length, getD}
 use lib.Seq.{slice, slice-cons, slice-empty}
 use borrow.Author.Tests.{ne-eqb}
 use Rattle.meaning.specs.Reading.{holds}
-use Rattle.meaning.specs.Stream.{recordsOf, linesAfter}
+use Rattle.meaning.specs.Stream.{withoutCr, recordsOf, linesAfter}
 use Rattle.meaning.proofs.Numbers.{by-test, neither-of}
 use Rattle.line.specs.Feed.{done, left, NextLf}
 
@@ -22,7 +22,7 @@ module _ (f : List ℕ → List ℕ) where
   records-after p [] t = refl
   records-after p (b ∷ s) t =
       by-test (eqb b 10)
-      (λ e. rw e (append-assoc (f p) (done f [] s) _ ∙ ap (λ (l : List ℕ). f p ++ l) (records-after [] s t)))
+      (λ e. rw e (append-assoc (f (withoutCr p)) (done f [] s) _ ∙ ap (λ (l : List ℕ). f (withoutCr p) ++ l) (records-after [] s t)))
       (λ e. rw e (records-after (p ++ (b ∷ [])) s t))
 
   pub done-append : (p s t : List ℕ) → done f p (s ++ t) ≡ done f p s ++ done f (left p s) t
@@ -30,7 +30,7 @@ module _ (f : List ℕ → List ℕ) where
   done-append p [] t = refl
   done-append p (b ∷ s) t =
       by-test (eqb b 10)
-      (λ e. rw e (ap (λ (l : List ℕ). f p ++ l) (done-append [] s t) ∙ sym (append-assoc (f p) (done f [] s) _)))
+      (λ e. rw e (ap (λ (l : List ℕ). f (withoutCr p) ++ l) (done-append [] s t) ∙ sym (append-assoc (f (withoutCr p)) (done f [] s) _)))
       (λ e. rw e (done-append (p ++ (b ∷ [])) s t))
 
 pub left-append : (p s t : List ℕ) → left p (s ++ t) ≡ left (left p s) t

@@ -7,14 +7,14 @@ use lib.Dec.{eqb}
 use lib.ListN.{length, take, getD}
 use lib.Seq.{slice}
 use Rattle.meaning.specs.Reading.{holds}
-use Rattle.meaning.specs.Stream.{recordsOf, linesAfter}
+use Rattle.meaning.specs.Stream.{withoutCr, recordsOf, linesAfter}
 use Rattle.line.specs.declared.Fed.{Fed}
 use Rattle.line.specs.Wrote.{Wrote}
 
--- the records of the lines that end in s, where p stands before it in its first line; f gives a line's record
+-- the records of the lines that end in s, where p stands before it in its first line; f gives a text's record
 unfoldable pub done : (List ℕ → List ℕ) → List ℕ → List ℕ → List ℕ
 done f p [] = []
-done f p (b ∷ s) = cond (eqb b 10) (f p ++ done f [] s) (done f (p ++ (b ∷ [])) s)
+done f p (b ∷ s) = cond (eqb b 10) (f (withoutCr p) ++ done f [] s) (done f (p ++ (b ∷ [])) s)
 
 -- what stands after the last LF of p and s
 unfoldable pub left : List ℕ → List ℕ → List ℕ
@@ -28,10 +28,11 @@ pub record NextLf (s : List ℕ) (i r : ℕ) : Type 0 where
   pub none : holds 10 (slice i r s) ≡ false
   pub here : r < length s → getD s r 0 ≡ 10
 
--- p stands in the first len bytes of the lent line; a len above 4,096 says only that p is longer than that
+-- p stands in the first len bytes of the lent line; a len above 4,097 says only that p is longer than that: the longest
+-- text and a CR, which may yet belong to the line end
 pub record Holds (line : List ℕ) (len : ℕ) (p : List ℕ) : Type 0 where
-  pub short : len ≤ 4096 → p ≡ take len line
-  pub long : 4096 < len → 4096 < length p
+  pub short : len ≤ 4097 → p ≡ take len line
+  pub long : 4097 < len → 4097 < length p
 
 -- ---- what a call of `feed` does, from a to b: the chunk is read from `a .from` to `b .from`
 

@@ -1,5 +1,6 @@
 // A stream handed over in chunks: lines are read in place where they lie whole in a chunk; the line that a chunk leaves
-// unended is gathered in a lent buffer of 4,096 bytes, its length beside it. 4,097 says that it is longer.
+// unended is gathered in a lent buffer of 4,097 bytes, its length beside it: room for the longest text and a CR, of which only
+// the next byte tells whether it belongs to the line end. 4,098 says that the line is longer.
 use crate::Fed;
 use crate::Wanted;
 use crate::records;
@@ -8,6 +9,7 @@ ghost use mathlib.Core.List.{List, _++_};
 ghost use Prim.Native.Nat.{ℕ, _+_, _≤_, _<_};
 ghost use lib.ListN.{length};
 ghost use lib.Seq.{slice};
+ghost use Rattle.meaning.specs.Stream.{withoutCr};
 ghost use Rattle.line.specs.Wrote.{Wrote};
 ghost use Rattle.line.specs.Wanted.{recordFor};
 ghost use Rattle.line.specs.Feed.{NextLf, Holds, Feeds, Finishes};
@@ -29,14 +31,14 @@ fn next_lf(chunk: &[u8], from: usize) -> usize
 
 // chunk[from..to] behind the line that is held: how long it is then.
 fn gather(line: &mut [u8], len: usize, chunk: &[u8], from: usize, to: usize) -> usize
-    requires { ⌜ (4096 ≤ length (now line)) × (from ≤ to) × (to ≤ length (now chunk)) ⌝ }
+    requires { ⌜ (4097 ≤ length (now line)) × (from ≤ to) × (to ≤ length (now chunk)) ⌝ }
     ensures { λ r. ⌜ ((p : List ℕ) → Holds (now (line .entry)) len p → Holds (now (line .exit)) r (p ++ slice from to (now (chunk .entry)))) ⌝ }
 {
-    if 4096 < len {
-        return 4097;
+    if 4097 < len {
+        return 4098;
     }
-    if 4096 - len < to - from {
-        return 4097;
+    if 4097 - len < to - from {
+        return 4098;
     }
     pieces::put_all(line, len, &chunk[from..to]);
     len + (to - from)
@@ -52,11 +54,11 @@ fn ended(
     len: usize,
     out: &mut [u8],
 ) -> usize
-    requires { ⌜ (4096 ≤ length (now line)) × (from ≤ to) × (to ≤ length (now chunk)) × (90 ≤ length (now out)) ⌝ }
-    ensures { λ r. ⌜ ((p : List ℕ) → Holds (now (line .entry)) len p → Wrote 0 (recordFor wanted (p ++ slice from to (now (chunk .entry)))) (now (out .entry)) r (now (out .exit))) ⌝ }
+    requires { ⌜ (4097 ≤ length (now line)) × (from ≤ to) × (to ≤ length (now chunk)) × (90 ≤ length (now out)) ⌝ }
+    ensures { λ r. ⌜ ((p : List ℕ) → Holds (now (line .entry)) len p → Wrote 0 (recordFor wanted (withoutCr (p ++ slice from to (now (chunk .entry))))) (now (out .entry)) r (now (out .exit))) ⌝ }
 {
     if len == 0 {
-        return records::record(wanted, &chunk[from..to], out);
+        return records::of_line(wanted, &chunk[from..to], out);
     }
     let whole = gather(line, len, chunk, from, to);
     records::held(wanted, line, whole, out)
@@ -64,7 +66,7 @@ fn ended(
 
 // One step: to behind the next LF, or to the chunk's end.
 fn advance(wanted: Wanted, chunk: &[u8], fed: Fed, line: &mut [u8], out: &mut [u8]) -> Fed
-    requires { ⌜ (4096 ≤ length (now line)) × (fed .from < length (now chunk)) × (fed .count + 90 ≤ length (now out)) ⌝ }
+    requires { ⌜ (4097 ≤ length (now line)) × (fed .from < length (now chunk)) × (fed .count + 90 ≤ length (now out)) ⌝ }
     ensures { λ r. ⌜ Feeds (recordFor wanted) (now (chunk .entry)) fed (now (line .entry)) (now (out .entry)) r (now (line .exit)) (now (out .exit)) ⌝ }
     ensures { λ r. ⌜ fed .from < r .from ⌝ }
 {
@@ -94,7 +96,7 @@ pub fn feed(
     wanted: Wanted,
     chunk: &[u8],
     from: usize,
-    line: &mut [u8; 4096],
+    line: &mut [u8; 4097],
     len: usize,
     out: &mut [u8],
 ) -> Fed
@@ -117,7 +119,7 @@ pub fn feed(
 }
 
 // The record of the last line, where there is one that has no LF.
-pub fn finish(wanted: Wanted, line: &[u8; 4096], len: usize, out: &mut [u8]) -> usize
+pub fn finish(wanted: Wanted, line: &[u8; 4097], len: usize, out: &mut [u8]) -> usize
     requires { ⌜ 90 ≤ length (now out) ⌝ }
     ensures { λ r. ⌜ Finishes (recordFor wanted) (now (line .entry)) len (now (out .entry)) r (now (out .exit)) ⌝ }
 {

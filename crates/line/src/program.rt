@@ -38,7 +38,7 @@ fn write(wanted: Wanted, out: &[u8], n: usize) -> bool
 fn drain(
     wanted: Wanted,
     block: &[u8],
-    line: &mut [u8; 4096],
+    line: &mut [u8; 4097],
     len: usize,
     out: &mut [u8; 65536],
 ) -> Went {
@@ -66,7 +66,7 @@ fn drain_first(
     wanted: Wanted,
     block: &[u8],
     n: usize,
-    line: &mut [u8; 4096],
+    line: &mut [u8; 4097],
     len: usize,
     out: &mut [u8; 65536],
 ) -> Went
@@ -76,7 +76,7 @@ fn drain_first(
 }
 
 // The last line, at the end of the input.
-fn last(wanted: Wanted, line: &[u8; 4096], len: usize, out: &mut [u8; 65536]) {
+fn last(wanted: Wanted, line: &[u8; 4097], len: usize, out: &mut [u8; 65536]) {
     let n = feeding::finish(wanted, line, len, out);
     write(wanted, out, n);
 }
@@ -85,7 +85,7 @@ fn last(wanted: Wanted, line: &[u8; 4096], len: usize, out: &mut [u8; 65536]) {
 fn turn(
     wanted: Wanted,
     block: &mut [u8; 65536],
-    line: &mut [u8; 4096],
+    line: &mut [u8; 4097],
     len: usize,
     out: &mut [u8; 65536],
 ) -> Went {
@@ -112,7 +112,7 @@ fn turn(
 // uses up.
 pub fn run(wanted: Wanted) {
     let mut block = io::large_buffer();
-    let mut line = io::buffer();
+    let mut line = [0u8; 4097];
     let mut out = io::large_buffer();
     let mut len: usize = 0;
     let mut turns = u64::MAX;

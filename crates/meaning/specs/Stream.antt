@@ -1,4 +1,4 @@
--- The record of a text, and the records of a stream of lines: document 01, 'The line program'.
+-- The record of a text, and the records of a stream of lines: document 01, 'The line program', and ticket 1 of document 02.
 use Prim.Native.Nat.{ℕ, _+_, _-_, _*_}
 use mathlib.Core.Bool.{Bool, true, cond, _&&_}
 use mathlib.Core.List.{List, [], _∷_, _++_}
@@ -20,20 +20,26 @@ fields (accepted v) = hexes (bytesOf 16 (encode v)) ++ 9 ∷ writeText v
 unfoldable pub recordText : Reading → List ℕ
 recordText r = decimal (numberGiven r) ++ 9 ∷ fields r ++ 10 ∷ []
 
--- a line of more than 4,096 bytes is refused unread
+-- a text of more than 4,096 bytes is refused unread
 unfoldable pub lineRecord : List ℕ → List ℕ
 lineRecord s = recordText (cond (leb (length s) 4096) (readText s) (refused lineTooLong))
 
--- the lines of a stream, where p stands before it in its first line; an empty line at the end is none
+-- the text of a line: one CR as its last byte belongs to the line end
+unfoldable pub withoutCr : List ℕ → List ℕ
+withoutCr [] = []
+withoutCr (b ∷ []) = cond (eqb b 13) [] (b ∷ [])
+withoutCr (b ∷ c ∷ s) = b ∷ withoutCr (c ∷ s)
+
+-- the texts of a stream's lines, where p stands before it in its first line; no bytes after the last LF are no line
 unfoldable pub linesAfter : List ℕ → List ℕ → List (List ℕ)
-linesAfter p [] = cond (eqb (length p) 0) [] (p ∷ [])
-linesAfter p (b ∷ s) = cond (eqb b 10) (p ∷ linesAfter [] s) (linesAfter (p ++ (b ∷ [])) s)
+linesAfter p [] = cond (eqb (length p) 0) [] (withoutCr p ∷ [])
+linesAfter p (b ∷ s) = cond (eqb b 10) (withoutCr p ∷ linesAfter [] s) (linesAfter (p ++ (b ∷ [])) s)
 
 unfoldable pub recordsOf : (List ℕ → List ℕ) → List (List ℕ) → List ℕ
 recordsOf f [] = []
 recordsOf f (l ∷ ls) = f l ++ recordsOf f ls
 
--- one record a line; f gives a line's record
+-- one record a line; f gives a text's record
 unfoldable pub streamRecords : (List ℕ → List ℕ) → List ℕ → List ℕ
 streamRecords f s = recordsOf f (linesAfter [] s)
 

@@ -22,7 +22,6 @@ run-spec =
     μ-loop
     (λ c κs. search needs)
     (λ c κs. search needs)
-    (λ c κs. search needs)
     loop-holds
     (λ c κs. search needs)
     (λ c. search needs)
