@@ -1,9 +1,10 @@
-"""Texts and stored values for the differential runs, as lines of hex. Everything follows from the seed.
+"""Texts and stored values for the differential runs, as lines of hex, and streams of lines as they are. Everything follows
+from the seed.
 
-    generate.py texts|values COUNT SEED
+    generate.py texts|values|stream COUNT SEED
 
 The first part is exhaustive and the same for every seed; the rest, up to COUNT, is drawn at random around the boundaries of
-document 01.
+document 01. Of a stream COUNT counts pieces, some shorter than a line and some longer.
 """
 import itertools
 import random
@@ -128,12 +129,22 @@ def values(seed):
         yield n.to_bytes(16, "little")
 
 
+def stream(seed):
+    # CR and LF wherever they fall, and now and then a line about as long as the limit
+    r = random.Random(seed)
+    while True:
+        if r.randrange(500):
+            yield bytes(r.choice(b"\r\r\n\n01e.-") for _ in range(r.randrange(1, 12)))
+        else:
+            yield b"0" * r.randrange(4093, 4099)
+
+
 def main():
     kind, count, seed = sys.argv[1], int(sys.argv[2]), int(sys.argv[3])
-    source = texts(seed) if kind == "texts" else values(seed)
-    out = sys.stdout
+    source = {"texts": texts, "values": values, "stream": stream}[kind](seed)
+    out = sys.stdout.buffer
     for item in itertools.islice(source, count):
-        out.write(item.hex() + "\n")
+        out.write(item if kind == "stream" else item.hex().encode() + b"\n")
 
 
 if __name__ == "__main__":

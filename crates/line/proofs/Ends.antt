@@ -1,18 +1,17 @@
 -- Laws of a line's text: the CR that belongs to the line end, and what ends a line.
 use mathlib.Core.Path.{_≡_, refl, sym, ap, _∙_}
-use mathlib.Core.Bool.{Bool, true, false, cond, _||_}
+use mathlib.Core.Bool.{false, cond}
 use mathlib.Core.List.{List, [], _∷_, _++_, append-assoc, append-nil}
 use Prim.Native.Nat.{ℕ, suc, _+_, _≤_, _<_}
-use native.Mathlib.Numerals.{add-one}
 use native.Mathlib.Omega.{arith}
 use lib.Dec.{eqb}
-use lib.ListN.{length, take, drop, getD, drop-of-length-le, length-append}
+use lib.ListN.{length, take, getD, drop-of-length-le, length-append}
 use lib.Seq.{split-at}
 use borrow.Author.Tests.{eq-eqb, ne-eqb}
 use Rattle.meaning.specs.Reading.{holds}
 use Rattle.meaning.specs.Stream.{withoutCr, linesAfter}
 use Rattle.meaning.proofs.Numbers.{by-test, neither-of}
-use Rattle.line.specs.Ends.{CrLfEnds, LfEnds, CrEndsTheLast}
+use Rattle.line.specs.Ends.{CrLfEnds, LfEnds, CrEndsTheLast, LastAsItStands}
 
 -- ---- the text of a line
 
@@ -69,8 +68,16 @@ pub lf-ends : LfEnds
 unfolding linesAfter
 lf-ends t s b h n = in-line [] (t ++ b ∷ []) (10 ∷ s) h ∙ rw (text-of t b, ne-eqb b 13 n)
 
+not-empty : (t : List ℕ) (x : ℕ) → eqb (length (t ++ x ∷ [])) 0 ≡ false
+not-empty t x = ne-eqb (length (t ++ x ∷ [])) 0 (λ e. omega (arith, length-append t (x ∷ [])))
+
 pub cr-ends-the-last : CrEndsTheLast
 unfolding linesAfter
-cr-ends-the-last t h =
-    let some : length (t ++ 13 ∷ []) ≡ 0 → ⊥ = λ e. omega (arith, length-append t (13 ∷ [])) in
-    in-line [] t (13 ∷ []) h ∙ rw (ne-eqb (length (t ++ 13 ∷ [])) 0 some, text-of t 13)
+cr-ends-the-last t h = in-line [] t (13 ∷ []) h ∙ rw (not-empty t 13, text-of t 13)
+
+pub last-as-it-stands : LastAsItStands
+unfolding linesAfter
+last-as-it-stands t b h n =
+    ap (linesAfter []) (sym (append-nil (t ++ b ∷ [])))
+    ∙ in-line [] (t ++ b ∷ []) [] h
+    ∙ rw (not-empty t b, text-of t b, ne-eqb b 13 n)

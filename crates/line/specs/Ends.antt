@@ -1,4 +1,5 @@
--- What ends a line, in the words of ticket 1 of document 02, said of the lines of a stream.
+-- What ends a line, in the words of ticket 1 of document 02, said of the lines of a stream. With the definition's own two,
+-- that nothing is no line and that an LF at the front ends an empty one, these are all the cases.
 use mathlib.Core.Path.{_≡_}
 use mathlib.Core.Bool.{false}
 use mathlib.Core.List.{List, [], _∷_, _++_}
@@ -19,3 +20,9 @@ LfEnds =
 -- a CR as the last byte of all ends the last line; where t is empty that is an empty line
 abbrev pub CrEndsTheLast : Type 0
 CrEndsTheLast = (t : List ℕ) → holds 10 t ≡ false → linesAfter [] (t ++ 13 ∷ []) ≡ t ∷ []
+
+-- a last line that nothing ends is text as it stands
+abbrev pub LastAsItStands : Type 0
+LastAsItStands =
+    (t : List ℕ) (b : ℕ) → holds 10 (t ++ b ∷ []) ≡ false → (b ≡ 13 → ⊥) →
+    linesAfter [] (t ++ b ∷ []) ≡ (t ++ b ∷ []) ∷ []

@@ -30,7 +30,7 @@ withoutCr [] = []
 withoutCr (b ∷ []) = cond (eqb b 13) [] (b ∷ [])
 withoutCr (b ∷ c ∷ s) = b ∷ withoutCr (c ∷ s)
 
--- the texts of a stream's lines, where p stands before it in its first line; no bytes after the last LF are no line
+-- the texts of a stream's lines, where p stands before it in its first line; an empty rest after the last LF is none
 unfoldable pub linesAfter : List ℕ → List ℕ → List (List ℕ)
 linesAfter p [] = cond (eqb (length p) 0) [] (withoutCr p ∷ [])
 linesAfter p (b ∷ s) = cond (eqb b 10) (withoutCr p ∷ linesAfter [] s) (linesAfter (p ++ (b ∷ [])) s)
