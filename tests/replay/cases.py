@@ -127,6 +127,8 @@ STREAMS = [
     (b"1\r\n2", _ONE + _TWO),
     (b"1\r2", _UNPARSEABLE),
     (b"1\r\r", _UNPARSEABLE),
+    (b"1\n0.5\n-inf\n1e\n", _ONE + _HALF + _MINUS_INFINITY + _EMPTY_EXPONENT),
+    (b"1\r\n0.5\r\n-inf\r\n1e\r\n", _ONE + _HALF + _MINUS_INFINITY + _EMPTY_EXPONENT),
     (b"1\r\n2\n0.5\r\n1e\r", _ONE + _TWO + _HALF + _EMPTY_EXPONENT),
     (b"0" * 4096, _ZERO),
     (b"0" * 4096 + b"\r", _ZERO),

@@ -2,7 +2,7 @@
 use mathlib.Core.Path.{_≡_, refl, sym, ap, _∙_}
 use mathlib.Core.Bool.{false, cond}
 use mathlib.Core.List.{List, [], _∷_, _++_, append-assoc, append-nil}
-use Prim.Native.Nat.{ℕ, suc, _+_, _≤_, _<_}
+use Prim.Native.Nat.{ℕ, suc, _+_, _≤_}
 use native.Mathlib.Omega.{arith}
 use lib.Dec.{eqb}
 use lib.ListN.{length, take, getD, drop-of-length-le, length-append}
@@ -42,14 +42,11 @@ no-byte [] e = refl
 no-byte (b ∷ s) e = absurd (omega arith)
 
 -- one byte is taken off at most
-one-off : (t : List ℕ) → length t ≤ length (withoutCr t) + 1
+pub one-off : (t : List ℕ) → length t ≤ length (withoutCr t) + 1
 unfolding withoutCr
 one-off [] = omega arith
 one-off (b ∷ []) = by-test (eqb b 13) (λ e. rw e (omega arith)) (λ e. rw e (omega arith))
 one-off (b ∷ c ∷ s) = omega (arith, one-off (c ∷ s))
-
-pub text-too-long : (t : List ℕ) → 4097 < length t → 4096 < length (withoutCr t)
-text-too-long t h = omega (arith, one-off t)
 
 -- ---- what ends a line
 

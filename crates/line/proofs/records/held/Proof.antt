@@ -3,13 +3,13 @@ use native.Mathlib.Omega.{arith}
 use lib.Seq.{length-take-le}
 use borrow.Author.Needs.{needs}
 use Rattle.meaning.specs.Stream.{withoutCr}
-use Rattle.line.proofs.Ends.{text-too-long}
+use Rattle.line.proofs.Ends.{one-off}
 use Rattle.line.proofs.records.held.Statement.{statement}
 use Rattle.line.proofs.records.held.Tie as tie
 
 returns : tie.Need-returns
 returns c =
-    λ p h. c .before .before .too-long .ensures (withoutCr p) (text-too-long p (h .long (c .before .before .before .before .if1 .taken)))
+    λ p h. c .before .before .too-long .ensures (withoutCr p) (omega (arith, one-off p, h .long (c .before .before .before .before .if1 .taken)))
 
 slice-aggregate-of-line : tie.Need-slice-aggregate-of-line
 slice-aggregate-of-line c = sym (length-take-le _ _ (omega (arith, c .before .before .before .before .pre .0, c .before .if1 .left)))
