@@ -30,7 +30,7 @@ enum decimal128_number {
 enum { DECIMAL128_TEXT = 42, DECIMAL128_DEBUG = 44 };
 
 /* Reads a text of len bytes. Accepted: the value's 16 bytes are in out16. Refused, 1 to 7: out16 holds 16 zero bytes. */
-uint32_t decimal128_read(const uint8_t *text, size_t len, uint8_t out16[16]);
+uint32_t decimal128_read(const uint8_t *text, size_t len, uint8_t out16[16], size_t *place);
 
 /* Writes the text of a stored value. Accepted: the text is the first *len bytes of buf, and the bytes after it stand as they
  * were. NoRoom, exactly where cap is less than the text's length: *len is 0 and no byte of buf is changed. */

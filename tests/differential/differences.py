@@ -15,6 +15,6 @@ for line in sys.stdin:
 if shortest:
     half = (len(shortest) - 1) // 2
     print(f"{count} answers differ. The shortest input, in hex and as text: {shortest[-1]} {bytes.fromhex(shortest[-1])!r}")
-    print("the Rust:", "\t".join(shortest[:half]))
+    print("expected:", "\t".join(shortest[:half]))
     print("ours:    ", "\t".join(shortest[half:-1]))
     sys.exit(1)

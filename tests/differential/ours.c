@@ -21,19 +21,19 @@ static void hex(const uint8_t bytes[16]) {
     for (int i = 0; i < 16; i++) printf("%02x", bytes[i]);
 }
 
-// number TAB hex TAB text, or number TAB - TAB -
+// number TAB hex TAB text TAB place, or number TAB - TAB - TAB place
 static void text(const uint8_t *bytes, size_t n) {
     uint8_t value[16], buf[DECIMAL128_TEXT];
-    size_t len = 0;
-    uint32_t number = decimal128_read(bytes, n, value);
+    size_t len = 0, place = SIZE_MAX;
+    uint32_t number = decimal128_read(bytes, n, value, &place);
     if (number) {
-        printf("%u\t-\t-\n", number);
+        printf("%u\t-\t-\t%zu\n", number, place);
         return;
     }
     decimal128_write(value, buf, sizeof buf, &len);
     printf("0\t");
     hex(value);
-    printf("\t%.*s\n", (int)len, (char *)buf);
+    printf("\t%.*s\t%zu\n", (int)len, (char *)buf, place);
 }
 
 // text TAB debug form

@@ -1,74 +1,249 @@
-"""The cases that are written by hand, from document 01 and ticket 1 of document 02: the example, and what a stream of lines can hold.
+"""The cases that are written by hand, from document 01 and tickets 1 and 2 of document 02: the example, what a stream of
+lines can hold, and the places of refusals.
 
 A case is a line as it stands in the stream, its end included, and its record.
 """
 
-_ZERO = b"0\t00000000000000000000000000004030\t0\n"
-_ONE = b"0\t01000000000000000000000000004030\t1\n"
-_TWO = b"0\t02000000000000000000000000004030\t2\n"
-_HALF = b"0\t05000000000000000000000000003e30\t0.5\n"
-_MINUS_INFINITY = b"0\t000000000000000000000000000000f8\t-Infinity\n"
-_EMPTY_EXPONENT = b"1\t-\t-\n"
-_INVALID_EXPONENT = b"2\t-\t-\n"
-_UNPARSEABLE = b"7\t-\t-\n"
+_ZERO = b"0\t00000000000000000000000000004030\t0\t0\n"
+_ONE = b"0\t01000000000000000000000000004030\t1\t0\n"
+_TWO = b"0\t02000000000000000000000000004030\t2\t0\n"
+_HALF = b"0\t05000000000000000000000000003e30\t0.5\t0\n"
+_MINUS_INFINITY = b"0\t000000000000000000000000000000f8\t-Infinity\t0\n"
 _MALFORMED = b"8\t-\t-\n"
-_TOO_LONG = b"10\t-\t-\n"
+_TOO_LONG = b"10\t-\t-\t-\n"
 
-_EXAMPLE = [(b"1\n", _ONE), (b"0.5\n", _HALF), (b"-inf\n", _MINUS_INFINITY), (b"1e\n", _EMPTY_EXPONENT)]
+
+def _refused(number, place):
+    """The record of a refusal, 1 to 7."""
+    return b"%d\t-\t-\t%d\n" % (number, place)
+
+
+_EXAMPLE = [(b"1\n", _ONE), (b"0.5\n", _HALF), (b"-inf\n", _MINUS_INFINITY), (b"1e\n", _refused(1, 1))]
 
 _BYTES = [
     # an empty line in the middle
-    (b"\n", _UNPARSEABLE),
+    (b"\n", _refused(7, 0)),
     # 4,096 bytes are read; 4,097 are 10, and the stream goes on
     (b"0" * 4096 + b"\n", _ZERO),
     (b"0" * 4097 + b"\n", _TOO_LONG),
-    (b"x" * 4096 + b"\n", _UNPARSEABLE),
+    (b"x" * 4096 + b"\n", _refused(7, 0)),
     (b"0" * 70000 + b"\n", _TOO_LONG),
     (b"2\n", _TWO),
     # NUL, bytes above 127 and a space are text
-    (b"\x001\n", _UNPARSEABLE),
-    (b"1\x00\n", _UNPARSEABLE),
-    (b"\xff\n", _UNPARSEABLE),
-    (b"1\x80\n", _UNPARSEABLE),
-    (b"1e\xc3\xa9\n", _INVALID_EXPONENT),
-    (b" 1\n", _UNPARSEABLE),
+    (b"\x001\n", _refused(7, 0)),
+    (b"1\x00\n", _refused(7, 1)),
+    (b"\xff\n", _refused(7, 0)),
+    (b"1\x80\n", _refused(7, 1)),
+    (b"1e\xc3\xa9\n", _refused(2, 2)),
+    (b" 1\n", _refused(7, 0)),
 ]
 
 _CARRIAGE_RETURNS = [(line[:-1] + b"\r\n", record) for line, record in _EXAMPLE] + [
     # an empty line
-    (b"\r\n", _UNPARSEABLE),
+    (b"\r\n", _refused(7, 0)),
     # LF and CR LF mixed
     (b"1\n", _ONE),
     (b"2\r\n", _TWO),
     (b"0.5\n", _HALF),
-    (b"1e\r\n", _EMPTY_EXPONENT),
+    (b"1e\r\n", _refused(1, 1)),
     # in the middle, in front, in the exponent: text
-    (b"1\r2\n", _UNPARSEABLE),
-    (b"1\r2\r\n", _UNPARSEABLE),
-    (b"\r1\n", _UNPARSEABLE),
-    (b"1e5\r0\r\n", _INVALID_EXPONENT),
+    (b"1\r2\n", _refused(7, 1)),
+    (b"1\r2\r\n", _refused(7, 1)),
+    (b"\r1\n", _refused(7, 0)),
+    (b"1e5\r0\r\n", _refused(2, 2)),
     # of two CRs the first is text
-    (b"1\r\r\n", _UNPARSEABLE),
-    (b"1e5\r\r\n", _INVALID_EXPONENT),
-    (b"\r\r\n", _UNPARSEABLE),
+    (b"1\r\r\n", _refused(7, 1)),
+    (b"1e5\r\r\n", _refused(2, 2)),
+    (b"\r\r\n", _refused(7, 0)),
     # LF CR LF: a line, and an empty one
     (b"1\n", _ONE),
-    (b"\r\n", _UNPARSEABLE),
+    (b"\r\n", _refused(7, 0)),
     # the limit counts the text alone
     (b"0" * 4095 + b"\r\n", _ZERO),
     (b"0" * 4096 + b"\r\n", _ZERO),
     (b"0" * 4097 + b"\r\n", _TOO_LONG),
-    (b"0" * 4095 + b"\r\r\n", _UNPARSEABLE),
+    (b"0" * 4095 + b"\r\r\n", _refused(7, 4095)),
     (b"0" * 4096 + b"\r\r\n", _TOO_LONG),
     (b"0" * 4096 + b"\r0\n", _TOO_LONG),
     (b"0" * 70000 + b"\r\n", _TOO_LONG),
     (b"2\r\n", _TWO),
 ]
 
+_FULL = b"1" + b"0" * 33  # a run of 34 bytes: all that step 8 keeps
+_LOWEST = b"-170141183460469231731687303715884105728"  # the lowest exponent, -2^127
+
+# a text, the number of its refusal, and the place; without an `e`, 4 and step 9's 6 need a longer text than a line may have:
+# tests/c/check.c has them
+_PLACES = [
+    # 1: the `e`
+    (b"e", 1, 0),
+    (b"E", 1, 0),
+    (b"-e", 1, 1),
+    (b"+1.5E", 1, 4),
+    (b"1.2.3e", 1, 5),
+    (b"infinite", 1, 7),
+    (b"-infinite", 1, 8),
+    (b"+INFINITE", 1, 8),
+    (b"0" * 4095 + b"e", 1, 4095),
+    # .. also where a byte before it is wrong
+    (b"xe", 1, 1),
+    (b"--1E", 1, 3),
+    # 7: the first wrong byte
+    (b"x", 7, 0),
+    (b"-x", 7, 1),
+    (b"1x2", 7, 1),
+    (b"1x2e5", 7, 1),
+    (b"-1x2E5", 7, 2),
+    (b"12.5x.y", 7, 4),
+    (b"1,5", 7, 1),
+    (b"0x10", 7, 1),
+    (b"1/2", 7, 1),
+    (b"1:2", 7, 1),
+    (b"-\xff", 7, 1),
+    (b"1.5\xc3\xa9", 7, 3),
+    (b"1\t2", 7, 1),
+    (b"0" * 4095 + b"x", 7, 4095),
+    # .. a second sign
+    (b"+-1", 7, 1),
+    (b"--1", 7, 1),
+    (b"1-", 7, 1),
+    (b"-1+2e5", 7, 2),
+    # .. the first letter of a word that is no special one
+    (b"nanx", 7, 0),
+    (b"-NaN1", 7, 1),
+    (b"infinit", 7, 0),
+    (b"+Infinit", 7, 1),
+    (b"-infinity ", 7, 1),
+    (b"snan1e5", 7, 0),
+    (b"1nan", 7, 1),
+    # .. also where no digit stands, or the exponent is wrong too
+    (b".x", 7, 1),
+    (b"..x.e5", 7, 2),
+    (b"x1e+", 7, 0),
+    # 7: the decimal part's end, where only a digit is missing
+    (b"", 7, 0),
+    (b"-", 7, 1),
+    (b"+", 7, 1),
+    (b".", 7, 1),
+    (b"-.", 7, 2),
+    (b"..", 7, 2),
+    (b"e5", 7, 0),
+    (b"-E5", 7, 1),
+    (b".e5", 7, 1),
+    (b"..e5", 7, 2),
+    (b"+..E5", 7, 3),
+    (b".e+", 7, 1),
+    (b"." * 4096, 7, 4096),
+    (b"-" + b"." * 4093 + b"E5", 7, 4094),
+    # 2: the byte after the `e`, whichever byte of the exponent is wrong
+    (b"1e+", 2, 2),
+    (b"1E-", 2, 2),
+    (b"-1e+", 2, 3),
+    (b"+1.5E--5", 2, 5),
+    (b"1ex", 2, 2),
+    (b"1e5x", 2, 2),
+    (b"1e5.0", 2, 2),
+    (b"1E5 ", 2, 2),
+    (b"1ee5", 2, 2),
+    (b"-1E5e5", 2, 3),
+    (b"1.2.3e+", 2, 6),
+    (b"0e170141183460469231731687303715884105728", 2, 2),
+    (b"-0E-170141183460469231731687303715884105729", 2, 3),
+    (b"0" * 4094 + b"e+", 2, 4095),
+    # 3: the second point
+    (b"1.2.3", 3, 3),
+    (b"-1.2.3", 3, 4),
+    (b"1.2.3e5", 3, 3),
+    (b"+1.2.3E5", 3, 4),
+    (b"1..", 3, 2),
+    (b"..1", 3, 1),
+    (b"1.2.3.4.5", 3, 3),
+    # .. after zeros
+    (b"0.0.", 3, 3),
+    (b"-000.000.1", 3, 8),
+    (b"0" * 4093 + b"..0", 3, 4094),
+    # .. as the last byte that is kept: zeros are cut behind it
+    (b"1." + b"0" * 32 + b".", 3, 34),
+    (b"1." + b"0" * 32 + b".000", 3, 34),
+    (b"1.2.00e-6174", 3, 3),
+    # .. with zeros appended up to 34 bytes
+    (b"1.2.3E6144", 3, 3),
+    # 6 in step 8: of what stands beyond 34 bytes, the first that is not 0
+    (_FULL + b"1", 6, 34),
+    (b"-" + _FULL + b"1", 6, 35),
+    (_FULL + b"1e5", 6, 34),
+    (b"+" + _FULL + b"1E-5", 6, 35),
+    (b"9" * 40, 6, 34),
+    # .. zeros are cut before it
+    (_FULL + b"0070", 6, 36),
+    (_FULL + b"0" * 4061 + b"1", 6, 4095),
+    # .. leading zeros are not of the run
+    (b"000" + _FULL + b"1", 6, 37),
+    (b"0." + _FULL + b"1", 6, 36),
+    (b"-00.00" + _FULL + b"01", 6, 41),
+    (b"0" * 4061 + _FULL + b"1", 6, 4095),
+    # .. nor is the first point, before the cut, at it, or among what is cut
+    (b"1." + b"0" * 33 + b"1", 6, 35),
+    (_FULL + b".5", 6, 35),
+    (_FULL + b"0.05", 6, 37),
+    (_FULL + b"5.0", 6, 34),
+    # .. a second point is, and is not 0
+    (b"1." + b"0" * 33 + b".", 6, 35),
+    (b"1." + b"0" * 33 + b"0.5", 6, 36),
+    (b"-" + _FULL + b"..e5", 6, 36),
+    (b".." + b"0" * 33 + b"12", 6, 35),
+    # .. and step 9 would have cut more
+    (b"12" + b"0" * 32 + b"1e-6210", 6, 34),
+    # 6 in step 9: of what stands below 10^-6176, the first that is not 0
+    (b"1e-6177", 6, 0),
+    (b"-1E-6177", 6, 1),
+    (b"+12e-6177", 6, 2),
+    (b"120E-6178", 6, 1),
+    (b"123e-6179", 6, 0),
+    # .. zeros are cut before it
+    (b"102e-6178", 6, 2),
+    (b"1002E-6179", 6, 3),
+    # .. leading zeros are not of the run
+    (b"0012e-6177", 6, 3),
+    (b"-0.0012E-6173", 6, 6),
+    (b"0" * 4089 + b"1e-6177", 6, 4089),
+    # .. nor is the first point, before the cut, at it, or among what is cut
+    (b"1.23e-6175", 6, 3),
+    (b"-1.5E-6176", 6, 3),
+    (b"12.3e-6177", 6, 1),
+    (b"10.2e-6177", 6, 3),
+    # .. a second point is, and is not 0
+    (b"1.2.3E-6176", 6, 2),
+    (b"1.0.0e-6175", 6, 3),
+    (b"-1.2.E-6175", 6, 4),
+    (b"..0e-6176", 6, 1),
+    # .. after step 8 cut zeros
+    (b"12" + b"0" * 33 + b"e-6210", 6, 1),
+    (b"-1." + _FULL + b"E-6176", 6, 3),
+    # 4: the byte after the `e`
+    (b"1e6145", 4, 2),
+    (b"-1E6145", 4, 3),
+    (b"+1.0e+6146", 4, 5),
+    (b"9" * 34 + b"E6112", 4, 35),
+    (b"1e-6178", 4, 2),
+    (b"-1E-6178", 4, 3),
+    (b"0.1e-6177", 4, 4),
+    (b"1E" + _LOWEST, 4, 2),
+    (b"-1e170141183460469231731687303715884105727", 4, 3),
+    (b"1.2.3E6145", 4, 6),
+    (b"0" * 4090 + b"1e6145", 4, 4092),
+    # 5: the byte after the `e`
+    (b".0e" + _LOWEST, 5, 3),
+    (b"0.0E" + _LOWEST, 5, 4),
+    (b"-0.0e" + _LOWEST, 5, 5),
+    (b"+1..E" + _LOWEST, 5, 5),
+    (b"0" * 4053 + b".0e" + _LOWEST, 5, 4056),
+]
+
 # the programs read blocks of 65,536 bytes; each line here is cut so that its first part ends with a block
 _CUT = [
     (b"1\r", b"\n", _ONE),
-    (b"1\r", b"2\n", _UNPARSEABLE),
+    (b"1\r", b"2\n", _refused(7, 1)),
     (b"0" * 4096 + b"\r", b"\n", _ZERO),
     (b"0" * 4096 + b"\r", b"\r\n", _TOO_LONG),
 ]
@@ -85,12 +260,13 @@ def _at_block_ends(length):
 
 _WHOLE = _EXAMPLE + _BYTES + _CARRIAGE_RETURNS
 _WHOLE += _at_block_ends(sum(len(line) for line, _ in _WHOLE))
+_WHOLE += [(text + b"\n", _refused(number, place)) for text, number, place in _PLACES]
 STDIN = b"".join(line for line, _ in _WHOLE)
 STDOUT = b"".join(record for _, record in _WHOLE)
 
 # no final LF: a last line of CR alone is an empty line
 LAST = b"\r"
-LAST_RECORD = _UNPARSEABLE
+LAST_RECORD = _refused(7, 0)
 
 # with CR LF throughout
 NOT_STORED = [
@@ -112,24 +288,24 @@ LAST_STORED_RECORD = b"0\t0.70\tDecimal128(46000000000000000000000000003c30)\n"
 # whole streams, each with what it is answered: the ends that a stream can have
 STREAMS = [
     (b"", b""),
-    (b"\n", _UNPARSEABLE),
+    (b"\n", _refused(7, 0)),
     (b"1", _ONE),
     (b"1\n", _ONE),
     (b"1\r", _ONE),
     (b"1\r\n", _ONE),
-    (b"\r", _UNPARSEABLE),
-    (b"\r\n", _UNPARSEABLE),
-    (b"\r\r", _UNPARSEABLE),
-    (b"\r\r\n", _UNPARSEABLE),
-    (b"\n\r", _UNPARSEABLE + _UNPARSEABLE),
-    (b"1\n\r", _ONE + _UNPARSEABLE),
-    (b"1\r\n\r", _ONE + _UNPARSEABLE),
+    (b"\r", _refused(7, 0)),
+    (b"\r\n", _refused(7, 0)),
+    (b"\r\r", _refused(7, 0)),
+    (b"\r\r\n", _refused(7, 0)),
+    (b"\n\r", _refused(7, 0) + _refused(7, 0)),
+    (b"1\n\r", _ONE + _refused(7, 0)),
+    (b"1\r\n\r", _ONE + _refused(7, 0)),
     (b"1\r\n2", _ONE + _TWO),
-    (b"1\r2", _UNPARSEABLE),
-    (b"1\r\r", _UNPARSEABLE),
-    (b"1\n0.5\n-inf\n1e\n", _ONE + _HALF + _MINUS_INFINITY + _EMPTY_EXPONENT),
-    (b"1\r\n0.5\r\n-inf\r\n1e\r\n", _ONE + _HALF + _MINUS_INFINITY + _EMPTY_EXPONENT),
-    (b"1\r\n2\n0.5\r\n1e\r", _ONE + _TWO + _HALF + _EMPTY_EXPONENT),
+    (b"1\r2", _refused(7, 1)),
+    (b"1\r\r", _refused(7, 1)),
+    (b"1\n0.5\n-inf\n1e\n", _ONE + _HALF + _MINUS_INFINITY + _refused(1, 1)),
+    (b"1\r\n0.5\r\n-inf\r\n1e\r\n", _ONE + _HALF + _MINUS_INFINITY + _refused(1, 1)),
+    (b"1\r\n2\n0.5\r\n1e\r", _ONE + _TWO + _HALF + _refused(1, 1)),
     (b"0" * 4096, _ZERO),
     (b"0" * 4096 + b"\r", _ZERO),
     (b"0" * 4096 + b"\r\n", _ZERO),

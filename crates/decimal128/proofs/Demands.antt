@@ -8,16 +8,23 @@ use lib.ListN.{length, drop}
 use borrow.Author.Tests.{le-leb, lt-leb}
 use Rattle.meaning.specs.Answers.{numberGiven, bytesGiven}
 use Rattle.meaning.proofs.Numbers.{le-or}
+use Rattle.meaning.proofs.Refused.{every-place-is-within, accepted-carries-zero}
 use Rattle.writing.specs.declared.Put.{Put}
 use Rattle.writing.specs.declared.Put.the-variants.{Done, NoRoom}
 use Rattle.writing.specs.Put.{putOf, placed, Puts}
 use Rattle.decimal128.specs.declared.Answer.{Answer}
-use Rattle.decimal128.specs.Demand1.{RefusedReadingIsZero, NoRoomExactly, NoRoomChangesNothing, AcceptedIsTheText}
+use Rattle.decimal128.specs.Demand1.{RefusedReadingIsZero, AcceptedReadingIsItsBytes, NoRoomExactly, NoRoomChangesNothing, AcceptedIsTheText}
 
 pub refused-reading-is-zero : RefusedReadingIsZero
 unfolding numberGiven bytesGiven
 refused-reading-is-zero text q r e f =
-    (ap (λ (a : Answer). a .number) e ∙ rw f, ap (λ (a : Answer). a .bytes) e ∙ rw f)
+    let p = ap (λ (a : Answer). a .place) e in
+    (ap (λ (a : Answer). a .number) e ∙ rw f, p, rw p (every-place-is-within text), ap (λ (a : Answer). a .bytes) e ∙ rw f)
+
+pub accepted-reading-is-its-bytes : AcceptedReadingIsItsBytes
+unfolding numberGiven bytesGiven
+accepted-reading-is-its-bytes text v r e f =
+    (ap (λ (a : Answer). a .number) e ∙ rw f, ap (λ (a : Answer). a .place) e ∙ accepted-carries-zero text v f, ap (λ (a : Answer). a .bytes) e ∙ rw f)
 
 -- with room, and without
 module _ (text before : List ℕ) (r : Put) (after : List ℕ) (k : Puts text before r after) where

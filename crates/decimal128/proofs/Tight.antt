@@ -5,6 +5,7 @@ use Prim.Native.Nat.{ℕ}
 use Rattle.writing.specs.declared.Put.{Put}
 use Rattle.writing.specs.Put.{Puts}
 use Rattle.decimal128.specs.declared.Answer.{Answer}
+use Rattle.decimal128.specs.declared.Parsed.{Parsed}
 use Rattle.decimal128.specs.declared.Decimal128.{Decimal128}
 use Rattle.decimal128.specs.Operations.{FromBytesAllows, BytesAllows, ParseAllows, ReadAllows, WriteAllows, DebugAllows, RecordAllows, ReadGives, ParseGives, PutGives}
 
@@ -16,7 +17,7 @@ from-bytes-is-tight bytes r q e f = e ∙ sym f
 pub bytes-is-tight : (v : Decimal128) (r q : List ℕ) → BytesAllows v r → BytesAllows v q → r ≡ q
 bytes-is-tight v r q e f = e ∙ sym f
 
-pub parse-is-tight : (s : List ℕ) (r q : Answer) → ParseAllows s r → ParseAllows s q → r ≡ q
+pub parse-is-tight : (s : List ℕ) (r q : Parsed) → ParseAllows s r → ParseAllows s q → r ≡ q
 parse-is-tight s r q e f = e ∙ sym f
 
 pub read-is-tight : (text : List ℕ) (r q : Answer) → ReadAllows text r → ReadAllows text q → r ≡ q
@@ -37,10 +38,10 @@ module _ (input before : List ℕ) (r q : Put) (a z : List ℕ) where
   pub record-is-tight : RecordAllows input before r a → RecordAllows input before q z → (r ≡ q) × (a ≡ z)
   record-is-tight k l = puts-is-tight k l
 
--- ---- for C: the number, and what stands behind each pointer; a and z are what out holds, or buf, m and n what *len is
+-- ---- for C: the number, and what stands behind each pointer; a and z are what out holds, or buf, m and n what *place or *len is
 
-pub c-read-is-tight : (text : List ℕ) (r q : ℕ) (a z : List ℕ) → ReadGives text r a → ReadGives text q z → (r ≡ q) × (a ≡ z)
-c-read-is-tight text r q a z k l = (k .is ∙ sym (l .is), k .bytes ∙ sym (l .bytes))
+pub c-read-is-tight : (text : List ℕ) (r q : ℕ) (a z : List ℕ) (m n : ℕ) → ReadGives text r a m → ReadGives text q z n → (r ≡ q) × (a ≡ z) × (m ≡ n)
+c-read-is-tight text r q a z m n k l = (k .is ∙ sym (l .is), k .bytes ∙ sym (l .bytes), k .at ∙ sym (l .at))
 
 pub c-parse-is-tight : (s : List ℕ) (r q : ℕ) (a z : List ℕ) → ParseGives s r a → ParseGives s q z → (r ≡ q) × (a ≡ z)
 c-parse-is-tight s r q a z k l = (k .is ∙ sym (l .is), k .bytes ∙ sym (l .bytes))

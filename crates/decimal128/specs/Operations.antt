@@ -8,7 +8,7 @@ use lib.ListN.{length, replicate}
 use Rattle.meaning.specs.Refusals.{numberOf}
 use Rattle.meaning.specs.Refusals.Refusal.{malformedBytes, noRoom}
 use Rattle.meaning.specs.Layout.{stored, decode}
-use Rattle.meaning.specs.Reading.{Reading, readText}
+use Rattle.meaning.specs.Reading.{Located, readAt, readText}
 use Rattle.meaning.specs.Writing.{writeText, debugText}
 use Rattle.meaning.specs.Answers.{numberGiven, bytesGiven}
 use Rattle.meaning.specs.Stream.{recordText}
@@ -16,6 +16,7 @@ use Rattle.writing.specs.declared.Put.{Put}
 use Rattle.writing.specs.declared.Put.the-variants.{Done, NoRoom}
 use Rattle.writing.specs.Put.{putOf, placed, Puts}
 use Rattle.decimal128.specs.declared.Answer.{Answer}
+use Rattle.decimal128.specs.declared.Parsed.{Parsed}
 use Rattle.decimal128.specs.declared.Decimal128.{Decimal128}
 
 -- ---- making, and taking apart
@@ -27,20 +28,20 @@ abbrev pub BytesAllows : Decimal128 → List ℕ → Type 0
 BytesAllows v r = r ≡ v .bytes
 
 -- 16 bytes as they are; MalformedBytes for any other length
-abbrev pub parsed : List ℕ → Answer
+abbrev pub parsed : List ℕ → Parsed
 parsed s =
     cond (eqb (length s) 16) (record { number = 0; bytes = s }) (record { number = numberOf malformedBytes; bytes = replicate 16 0 })
 
-abbrev pub ParseAllows : List ℕ → Answer → Type 0
+abbrev pub ParseAllows : List ℕ → Parsed → Type 0
 ParseAllows s r = r ≡ parsed s
 
 -- ---- reading
 
-abbrev pub answered : Reading → Answer
-answered r = record { number = numberGiven r; bytes = bytesGiven r }
+abbrev pub answered : Located → Answer
+answered r = record { number = numberGiven (r .reading); place = r .place; bytes = bytesGiven (r .reading) }
 
 abbrev pub ReadAllows : List ℕ → Answer → Type 0
-ReadAllows text r = r ≡ answered (readText text)
+ReadAllows text r = r ≡ answered (readAt text)
 
 -- ---- writing: `Puts text before r after` says that text is put into the buffer whole, or NoRoom and not at all
 
@@ -51,7 +52,7 @@ abbrev pub DebugAllows : List ℕ → List ℕ → Put → List ℕ → Type 0
 DebugAllows bytes before r after = Puts (debugText bytes) before r after
 
 abbrev pub RecordAllows : List ℕ → List ℕ → Put → List ℕ → Type 0
-RecordAllows text before r after = Puts (recordText (readText text)) before r after
+RecordAllows text before r after = Puts (recordText (readAt text)) before r after
 
 -- ---- the paper's number and length of each case of `Put`
 
@@ -63,11 +64,12 @@ abbrev pub putLength : Put → ℕ
 putLength (Done n) = n
 putLength NoRoom = 0
 
--- ---- for C: the number is returned, the bytes and the length go through pointers
+-- ---- for C: the number is returned, the bytes, the place and the length go through pointers
 
-pub record ReadGives (text : List ℕ) (number : ℕ) (out : List ℕ) : Type 0 where
+pub record ReadGives (text : List ℕ) (number : ℕ) (out : List ℕ) (place : ℕ) : Type 0 where
   pub is : number ≡ numberGiven (readText text)
   pub bytes : out ≡ bytesGiven (readText text)
+  pub at : place ≡ readAt text .place
 
 pub record ParseGives (s : List ℕ) (number : ℕ) (out : List ℕ) : Type 0 where
   pub is : number ≡ parsed s .number

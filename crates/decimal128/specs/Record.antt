@@ -12,7 +12,11 @@ use Rattle.writing.specs.Written.{written}
 abbrev pub front : List ℕ → List ℕ
 front s = 48 ∷ 9 ∷ hexes s ++ 9 ∷ []
 
--- the text stands at 35 where LF has room behind it; otherwise nothing is changed
+-- the text stands at 35 where a tab, `0` and LF have room behind it; otherwise nothing is changed
 pub record TextIn (t b : List ℕ) (r : Put) (after : List ℕ) : Type 0 where
-  pub room : length t + 36 ≤ length b → (r ≡ Done (length t)) × (after ≡ written 35 t b)
-  pub none : length b < length t + 36 → (r ≡ NoRoom) × (after ≡ b)
+  pub room : length t + 38 ≤ length b → (r ≡ Done (length t)) × (after ≡ written 35 t b)
+  pub none : length b < length t + 38 → (r ≡ NoRoom) × (after ≡ b)
+
+-- what stands before the place of a refusal: its number, `-` and `-`, each with a tab
+abbrev pub dashes : ℕ → List ℕ
+dashes number = (48 + number) ∷ 9 ∷ 45 ∷ 9 ∷ 45 ∷ 9 ∷ []

@@ -25,12 +25,13 @@ fn length_of(put: Put) -> usize
 }
 
 #[no_mangle]
-pub extern "C" fn decimal128_read(text: &[u8], out: &mut [u8; 16]) -> u32
-    ensures { λ r. ⌜ ReadGives (now (text .entry)) r (now (out .exit)) ⌝ }
+pub extern "C" fn decimal128_read(text: &[u8], out: &mut [u8; 16], place: &mut usize) -> u32
+    ensures { λ r. ⌜ ReadGives (now (text .entry)) r (now (out .exit)) (now (place .exit)) ⌝ }
 {
     let answer = crate::read(text);
     let value = answer.bytes;
     *out = value;
+    *place = answer.place;
     answer.number
 }
 

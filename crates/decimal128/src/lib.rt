@@ -11,8 +11,15 @@ pub struct Decimal128 {
     pub bytes: [u8; 16],
 }
 
-// The number of a refusal and 16 zero bytes, or 0 and the bytes of the value.
+// What a text is read as: the number of a refusal, its place in the text and 16 zero bytes, or 0 twice and the value's bytes.
 pub struct Answer {
+    pub number: u32,
+    pub place: usize,
+    pub bytes: [u8; 16],
+}
+
+// What stored bytes are taken as: the number of a refusal and 16 zero bytes, or 0 and the bytes.
+pub struct Parsed {
     pub number: u32,
     pub bytes: [u8; 16],
 }
@@ -47,7 +54,7 @@ impl Decimal128 {
     }
 }
 
-// Text to 16 bytes.
+// Text to 16 bytes; where it is refused, the place.
 pub fn read(text: &[u8]) -> Answer
     ensures { λ r. ⌜ ReadAllows (now (text .entry)) r ⌝ }
 {
@@ -56,40 +63,43 @@ pub fn read(text: &[u8]) -> Answer
     if number != 0 {
         return Answer {
             number: number,
+            place: r.place,
             bytes: [0u8; 16],
         };
     }
     let value = r.value;
     Answer {
         number: 0,
+        place: 0,
         bytes: layout::pack(value),
     }
 }
 
-// The record of a text: number, 32 hex digits and the written text, parted by tabs, and LF; `-` twice after a refusal.
+// The record of a text: number, 32 hex digits, written text and place, parted by tabs, and LF; a refusal has `-` for the digits
+// and for the text.
 pub fn record(text: &[u8], buf: &mut [u8]) -> Put
     ensures { λ r. ⌜ RecordAllows (now (text .entry)) (now (buf .entry)) r (now (buf .exit)) ⌝ }
 {
     let r = reading::read(text);
     let number = r.number;
     if number != 0 {
-        return framing::refused(number, buf);
+        return framing::refused(number, r.place, buf);
     }
     let value = r.value;
     framing::accepted(value, buf)
 }
 
 // Sixteen bytes as they are; 8, MalformedBytes, for any other length.
-pub fn parse(bytes: &[u8]) -> Answer
+pub fn parse(bytes: &[u8]) -> Parsed
     ensures { λ r. ⌜ ParseAllows (now (bytes .entry)) r ⌝ }
 {
     if bytes.len() != 16 {
-        return Answer {
+        return Parsed {
             number: 8,
             bytes: [0u8; 16],
         };
     }
-    Answer {
+    Parsed {
         number: 0,
         bytes: [
             bytes[0],

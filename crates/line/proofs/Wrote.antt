@@ -10,13 +10,11 @@ use lib.Seq.{take-all, take-at, drop-drop, length-take-le}
 use borrow.Author.Tests.{le-leb, lt-leb, ne-eqb, eq-eqb}
 use borrow.Rule.Slice.PartMut.{midOf, putMid}
 use Rattle.meaning.specs.Refusals.{numberOf}
-use Rattle.meaning.specs.Refusals.Refusal.{malformedBytes}
 use Rattle.meaning.specs.Layout.{stored, decode}
-use Rattle.meaning.specs.Reading.{readText}
-use Rattle.meaning.specs.Reading.Reading.{refused}
+use Rattle.meaning.specs.Reading.{readAt}
 use Rattle.meaning.specs.Writing.{decimal, digitsBefore, writeText, debugText}
 use Rattle.meaning.specs.Answers.{numberGiven}
-use Rattle.meaning.specs.Stream.{recordText, lineRecord, storedRecord, allHex, unhex}
+use Rattle.meaning.specs.Stream.{recordText, unread, lineRecord, malformed, storedRecord, allHex, unhex}
 use Rattle.meaning.proofs.Fields.{decodes-in-range}
 use Rattle.meaning.proofs.Lengths.{text-has-at-most-42}
 use Rattle.writing.specs.declared.Put.{Put}
@@ -107,24 +105,24 @@ record-put s b {c} {d} {e} {m} {n} room few long front text debug =
 
 -- ---- the records that are known beforehand
 
-pub long-text : (p : List ℕ) → 4096 < length p → 49 ∷ 48 ∷ 9 ∷ 45 ∷ 9 ∷ 45 ∷ 10 ∷ [] ≡ lineRecord p
-unfolding lineRecord recordText numberGiven numberOf decimal digitsBefore
+pub long-text : (p : List ℕ) → 4096 < length p → 49 ∷ 48 ∷ 9 ∷ 45 ∷ 9 ∷ 45 ∷ 9 ∷ 45 ∷ 10 ∷ [] ≡ lineRecord p
+unfolding lineRecord unread numberGiven numberOf decimal digitsBefore
 long-text p h = rw (lt-leb (length p) 4096 h)
 
-pub short-text : (p : List ℕ) → length p ≤ 4096 → recordText (readText p) ≡ lineRecord p
+pub short-text : (p : List ℕ) → length p ≤ 4096 → recordText (readAt p) ≡ lineRecord p
 unfolding lineRecord
 short-text p h = rw (le-leb (length p) 4096 h)
 
-pub malformed-is : 56 ∷ 9 ∷ 45 ∷ 9 ∷ 45 ∷ 10 ∷ [] ≡ recordText (refused malformedBytes)
-unfolding recordText numberGiven numberOf decimal digitsBefore
+pub malformed-is : 56 ∷ 9 ∷ 45 ∷ 9 ∷ 45 ∷ 10 ∷ [] ≡ malformed
+unfolding malformed numberGiven numberOf decimal digitsBefore
 malformed-is = refl
 
 module _ (s : List ℕ) where
-  pub other-length : (length s ≡ 32 → ⊥) → recordText (refused malformedBytes) ≡ storedRecord s
+  pub other-length : (length s ≡ 32 → ⊥) → malformed ≡ storedRecord s
   unfolding storedRecord
   other-length h = rw (ne-eqb (length s) 32 h)
 
-  pub no-hex : length s ≡ 32 → allHex s ≡ false → recordText (refused malformedBytes) ≡ storedRecord s
+  pub no-hex : length s ≡ 32 → allHex s ≡ false → malformed ≡ storedRecord s
   unfolding storedRecord
   no-hex e h = rw (eq-eqb (length s) 32 e, h)
 

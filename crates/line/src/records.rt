@@ -1,4 +1,4 @@
-// The record of one line's text, at the front of the lent output: at most 78 bytes for a text, at most 90 for a stored value.
+// The record of one line's text, at the front of the lent output: at most 80 bytes for a text, at most 90 for a stored value.
 use crate::Wanted;
 use crate::puts;
 use crate::stored;
@@ -17,7 +17,7 @@ fn too_long(wanted: Wanted, out: &mut [u8]) -> usize
     ensures { λ r. ⌜ ((p : List ℕ) → 4096 < length p → Wrote 0 (recordFor wanted p) (now (out .entry)) r (now (out .exit))) ⌝ }
 {
     match wanted {
-        Wanted::Texts => puts::put_known(out, b"10\t-\t-\n"),
+        Wanted::Texts => puts::put_known(out, b"10\t-\t-\t-\n"),
         Wanted::Stored => stored::malformed(out),
     }
 }

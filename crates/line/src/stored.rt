@@ -6,9 +6,7 @@ ghost use mathlib.Core.Path.{_≡_};
 ghost use mathlib.Core.Bool.{true};
 ghost use Prim.Native.Nat.{_≤_};
 ghost use lib.ListN.{length};
-ghost use Rattle.meaning.specs.Refusals.Refusal.{malformedBytes};
-ghost use Rattle.meaning.specs.Reading.{Reading};
-ghost use Rattle.meaning.specs.Stream.{hexValue, allHex, unhex, recordText, storedRecord};
+ghost use Rattle.meaning.specs.Stream.{hexValue, allHex, unhex, malformed, storedRecord};
 ghost use Rattle.line.specs.Wrote.{Wrote, storedText};
 
 // The value of a hex digit; 16 for any other byte.
@@ -74,7 +72,7 @@ fn accepted(bytes: [u8; 16], out: &mut [u8]) -> usize
 // 8, MalformedBytes.
 pub fn malformed(out: &mut [u8]) -> usize
     requires { ⌜ 90 ≤ length (now out) ⌝ }
-    ensures { λ r. ⌜ Wrote 0 (recordText (Reading.refused malformedBytes)) (now (out .entry)) r (now (out .exit)) ⌝ }
+    ensures { λ r. ⌜ Wrote 0 malformed (now (out .entry)) r (now (out .exit)) ⌝ }
 {
     puts::put_known(out, b"8\t-\t-\n")
 }

@@ -11,7 +11,7 @@ use borrow.Author.Tests.{eqb-true, eqb-false, leb-true, ltb-true, ne-eqb}
 use Rattle.meaning.specs.Refusals.{Refusal}
 use Rattle.meaning.specs.Decimal.{Decimal, InRange}
 use Rattle.meaning.specs.Decimal.Decimal.{nan, infinity, finite}
-use Rattle.meaning.specs.Reading.{Reading, Written, bytes, lower, isDigit, same, number, allDigits, allZeros, holds, decimalPart, before, from, fraction, someDigits, origin, high, low, lost, kept, exponent, upward, downward, stripZeros, step2, step3, step4, step5, step6, step7, step8, step9, step10, step11, readText}
+use Rattle.meaning.specs.Reading.{Reading, Located, Written, bytes, lower, isDigit, same, number, allDigits, allZeros, holds, decimalPart, before, from, fraction, someDigits, origin, high, low, lost, kept, exponent, upward, downward, stripZeros, step2, step3, step4, step5, step6, step7, step8, step9, step10, step11, readAt, readText}
 use Rattle.meaning.specs.Reading.Reading.{refused, accepted}
 use Rattle.meaning.specs.Reading.Written.{written, wrong}
 use Rattle.meaning.specs.Grammar.{Sign, Fraction, Power, FiniteText, WrittenE, SignedE, Grammatical, Kept, Word, signText, negative, fractionText, after, letter, powerText, textOf, digitsOf}
@@ -54,12 +54,12 @@ zeros-hold (x ∷ s) e =
 cut-hold : (n : ℕ) (run : List ℕ) → allZeros (drop n run) ≡ true → holds 46 (take n run) ≡ false → holds 46 run ≡ false
 cut-hold n run z h = rw take-append-drop at (holds-append 46 (take n run) (drop n run) h (zeros-hold (drop n run) z))
 
-module _ (sign : Bool) (v : Decimal) where
-  eleven : (x : ℕ) (run : List ℕ) → step11 sign x run ≡ accepted v → holds 46 run ≡ false
+module _ (text : List ℕ) (sign : Bool) (v : Decimal) where
+  eleven : (x : ℕ) (run : List ℕ) → step11 text sign x run .reading ≡ accepted v → holds 46 run ≡ false
   unfolding step11
   eleven x run e = by-test (holds 46 run) (λ t. never (rw t at e)) (λ t. t)
 
-  ten : (x : ℕ) (run : List ℕ) → step10 sign x run ≡ accepted v → holds 46 run ≡ false
+  ten : (x : ℕ) (run : List ℕ) → step10 text sign x run .reading ≡ accepted v → holds 46 run ≡ false
   unfolding step10
   ten x run e =
       by-test (leb x high)
@@ -68,7 +68,7 @@ module _ (sign : Bool) (v : Decimal) where
       (λ u. holds-left 46 run (replicate (x - high) 48) (eleven high _ (rw (t, u) at e)))
       (λ u. never (rw (t, u) at e)))
 
-  nine : (x : ℕ) (run : List ℕ) → step9 sign x run ≡ accepted v → holds 46 run ≡ false
+  nine : (x : ℕ) (run : List ℕ) → step9 text sign x run .reading ≡ accepted v → holds 46 run ≡ false
   unfolding step9
   nine x run e =
       by-test (leb low x)
@@ -79,7 +79,7 @@ module _ (sign : Bool) (v : Decimal) where
       (λ w. never (rw (t, u, w) at e)))
       (λ u. never (rw (t, u) at e)))
 
-  eight : (x : ℕ) (run : List ℕ) → step8 sign x run ≡ accepted v → holds 46 run ≡ false
+  eight : (x : ℕ) (run : List ℕ) → step8 text sign x run .reading ≡ accepted v → holds 46 run ≡ false
   unfolding step8
   eight x run e =
       by-test (leb (length run) 34)
@@ -88,7 +88,7 @@ module _ (sign : Bool) (v : Decimal) where
       (λ u. cut-hold 34 run u (nine _ _ (rw (t, u) at e)))
       (λ u. never (rw (t, u) at e)))
 
-  seven : (x : ℕ) (run : List ℕ) → step7 sign x run ≡ accepted v → holds 46 run ≡ false
+  seven : (x : ℕ) (run : List ℕ) → step7 text sign x run .reading ≡ accepted v → holds 46 run ≡ false
   unfolding step7 holds
   seven x [] e = refl
   seven x (b ∷ s) e = eight x (b ∷ s) e
@@ -262,7 +262,7 @@ parted-lower (d ∷ w) (c ∷ a) b e =
 
 -- ---- step 3
 
-parted : (c : ℕ) (t : List ℕ) → t ≡ before c t ++ from c t
+pub parted : (c : ℕ) (t : List ℕ) → t ≡ before c t ++ from c t
 unfolding before from
 parted c [] = refl
 parted c (x ∷ t) = by-test (eqb x c) (λ e. rw e) (λ e. rw e (ap (λ (l : List ℕ). x ∷ l) (parted c t)))
@@ -283,18 +283,18 @@ record Passed (dec : List ℕ) (w : Written) : Type 0 where
   room : length (fraction dec) ≤ e
   one-point : holds 46 (before 46 dec ++ fraction dec) ≡ false
 
-passed-six : (sign : Bool) (dec : List ℕ) (w : Written) (v : Decimal) → decimalPart false dec ≡ true → step5 sign dec w ≡ accepted v → Passed dec w
+passed-six : (text : List ℕ) (sign : Bool) (dec : List ℕ) (w : Written) (v : Decimal) → decimalPart false dec ≡ true → step5 text sign dec w .reading ≡ accepted v → Passed dec w
 unfolding step5 step6
-passed-six sign dec wrong v d f = never f
-passed-six sign dec (written e) v d f =
+passed-six text sign dec wrong v d f = never f
+passed-six text sign dec (written e) v d f =
     by-test (leb (length (fraction dec)) e)
-    (λ t. record { decimal = d; e = e; is = refl; room = leb-true _ _ t; one-point = strip-hold _ (seven sign v _ _ (rw t at f)) })
+    (λ t. record { decimal = d; e = e; is = refl; room = leb-true _ _ t; one-point = strip-hold _ (seven text sign v _ _ (rw t at f)) })
     (λ t. never (rw t at f))
 
-passed : (sign : Bool) (dec : List ℕ) (w : Written) (v : Decimal) → step4 sign dec w ≡ accepted v → Passed dec w
+passed : (text : List ℕ) (sign : Bool) (dec : List ℕ) (w : Written) (v : Decimal) → step4 text sign dec w .reading ≡ accepted v → Passed dec w
 unfolding step4
-passed sign dec w v f =
-    by-test (decimalPart false dec) (λ t. passed-six sign dec w v t (rw t at f)) (λ t. never (rw t at f))
+passed text sign dec w v f =
+    by-test (decimalPart false dec) (λ t. passed-six text sign dec w v t (rw t at f)) (λ t. never (rw t at f))
 
 -- an accepted finite text as its parts
 abbrev Found : Sign → List ℕ → Type 0
@@ -329,17 +329,17 @@ power-parts (c ∷ y) t e m f =
 same-case : (x dec : List ℕ) → map lower x ≡ dec → decimalPart false dec ≡ true → dec ≡ x
 same-case x dec e d = sym e ∙ low-lower x (rw e (low-decimal false dec d))
 
-three : (g : Sign) (w dec tail : List ℕ) (v : Decimal) → map lower w ≡ dec ++ tail → ((e : ℕ) (r : List ℕ) → tail ≡ e ∷ r → e ≡ 101) → step3 (negative g) dec tail ≡ accepted v → Found g w
+three : (text : List ℕ) (g : Sign) (w dec tail : List ℕ) (v : Decimal) → map lower w ≡ dec ++ tail → ((e : ℕ) (r : List ℕ) → tail ≡ e ∷ r → e ≡ 101) → step3 text (negative g) dec tail .reading ≡ accepted v → Found g w
 unfolding step3
-three g w dec [] v m h f =
-    let k = passed (negative g) dec (written origin) v f in
+three text g w dec [] v m h f =
+    let k = passed text (negative g) dec (written origin) v f in
     let q : dec ≡ w = same-case w dec (m ∙ append-nil dec) (k .decimal) in
     let o : origin ≡ k .e = (let z = k .is in cc) in
     subst (λ (l : List ℕ). Found g l) (append-nil dec ∙ q)
     (assemble g dec [] noPower (k .e) (parts false dec (k .decimal) (k .one-point)) (k .room) refl (sym o))
-three g w dec (e ∷ []) v m h f = never f
-three g w dec (e ∷ b ∷ s) v m h f =
-    let k = passed (negative g) dec (exponent (b ∷ s)) v f in
+three text g w dec (e ∷ []) v m h f = never f
+three text g w dec (e ∷ b ∷ s) v m h f =
+    let k = passed text (negative g) dec (exponent (b ∷ s)) v f in
     let r = parted-lower w dec (e ∷ b ∷ s) m in
     let q : dec ≡ r .0 = same-case (r .0) dec (r .3) (k .decimal) in
     let p = power-parts (r .1) (b ∷ s) (k .e) (r .4 ∙ ap (λ (c : ℕ). c ∷ b ∷ s) (h e (b ∷ s) refl)) (k .is) in
@@ -357,8 +357,8 @@ same-is (x ∷ s) (y ∷ t) e =
     let h = both (eqb x y) (same s t) e in rw (eqb-true x y (h .0), same-is s t (h .1))
 
 -- the sign, and what stands after it
-signed-off : (s : List ℕ) → (g : Sign) × (w : List ℕ) × (s ≡ signText g ++ w) × (readText s ≡ step2 (negative g) (map lower w))
-unfolding readText
+signed-off : (s : List ℕ) → (g : Sign) × (w : List ℕ) × (s ≡ signText g ++ w) × (readAt s ≡ step2 s (negative g) (map lower w))
+unfolding readAt
 signed-off [] = (none, [], refl, refl)
 signed-off (b ∷ s) =
     by-test (eqb b 45)
@@ -375,9 +375,9 @@ either-of false b e = inr e
 word-of : {w : List ℕ} {sign : Bool} {a v : Decimal} → Word w sign a → accepted a ≡ accepted v → Word w sign v
 word-of {w} {sign} {a} {v} k e = subst (λ (d : Decimal). Word w sign d) (let f : a ≡ v = cc in f) k
 
-two : (g : Sign) (w : List ℕ) (v : Decimal) → step2 (negative g) (map lower w) ≡ accepted v → Found g w ⊎ Word w (negative g) v
+two : (text : List ℕ) (g : Sign) (w : List ℕ) (v : Decimal) → step2 text (negative g) (map lower w) .reading ≡ accepted v → Found g w ⊎ Word w (negative g) v
 unfolding step2
-two g w v e =
+two text g w v e =
     let t = map lower w in
     by-test (same t (bytes "nan"))
     (λ a. inr (word-of (isNan (same-is t _ a)) (rw a at e)))
@@ -388,7 +388,7 @@ two g w v e =
     (λ d. inr (word-of (isInfinity (same-is t _ d)) (rw (a, b, c) at e)))
     (λ d. inr (word-of (isInf (same-is t _ d)) (rw (a, b, c) at e)))
     (either-of (same t (bytes "infinity")) (same t (bytes "inf")) c))
-    (λ c. inl (three g w (before 101 t) (from 101 t) v (parted 101 t) (λ x r f. from-head 101 t f) (rw (a, b, c) at e)))))
+    (λ c. inl (three text g w (before 101 t) (from 101 t) v (parted 101 t) (λ x r f. from-head 101 t f) (rw (a, b, c) at e)))))
 
 pub accepts-only-the-grammar : AcceptsOnlyTheGrammar
 accepts-only-the-grammar s v e =
@@ -396,7 +396,7 @@ accepts-only-the-grammar s v e =
     ⊎-elim
     (λ f. inl (f .0, f .1, r .2 ∙ f .2, f .3))
     (λ k. inr (r .0, r .1, r .2, k))
-    (two (r .0) (r .1) v (sym (r .3) ∙ e))
+    (two s (r .0) (r .1) v (ap (λ (a : Located). a .reading) (sym (r .3)) ∙ e))
 
 -- ---- what is accepted is in range
 

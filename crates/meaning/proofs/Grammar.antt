@@ -10,7 +10,7 @@ use lib.ListN.{length, drop, length-append}
 use borrow.Author.Tests.{le-leb, lt-leb, lt-ltb, ne-eqb}
 use Rattle.meaning.specs.Refusals.{Refusal}
 use Rattle.meaning.specs.Refusals.Refusal.{overflow, inexactRounding}
-use Rattle.meaning.specs.Reading.{Reading, bytes, lower, isDigit, same, number, allDigits, decimalPart, before, from, fraction, someDigits, origin, exponent, upward, downward, stripZeros, step2, step3, step4, step5, step6, step7, readText}
+use Rattle.meaning.specs.Reading.{Reading, Located, bytes, lower, isDigit, same, number, allDigits, decimalPart, before, from, fraction, someDigits, origin, exponent, upward, downward, stripZeros, step2, step3, step4, step5, step6, step7, readAt, readText}
 use Rattle.meaning.specs.Reading.Reading.{refused, accepted}
 use Rattle.meaning.specs.Reading.Written.{written, wrong}
 use Rattle.meaning.specs.Grammar.{Sign, Fraction, Power, FiniteText, WrittenE, Grammatical, signText, negative, fractionText, after, letter, powerText, textOf, digitsOf, wholeOf}
@@ -76,20 +76,21 @@ from-free c (b ∷ a) p f = rw (ne-eqb b c (f .0)) (from-free c a p (f .1))
 -- ---- steps 1 and 2
 
 module _ (b : ℕ) (r : List ℕ) (p : 46 ≤ b) (q : b ≤ 57) where
-  signed : (g : Sign) → readText (signText g ++ (b ∷ r)) ≡ step2 (negative g) (map lower (b ∷ r))
-  unfolding readText
+  signed : (g : Sign) → readAt (signText g ++ (b ∷ r)) ≡ step2 (signText g ++ (b ∷ r)) (negative g) (map lower (b ∷ r))
+  unfolding readAt
   signed none = simp (ne-eqb b 45 (λ e. omega arith), ne-eqb b 43 (λ e. omega arith))
   signed plus = refl
   signed minus = refl
 
-  special : (g : Bool) → step2 g (b ∷ r) ≡ step3 g (before 101 (b ∷ r)) (from 101 (b ∷ r))
+  special : (text : List ℕ) (g : Bool) → step2 text g (b ∷ r) ≡ step3 text g (before 101 (b ∷ r)) (from 101 (b ∷ r))
   unfolding step2 same bytes
-  special g = simp (ne-eqb b 110 (λ e. omega arith), ne-eqb b 115 (λ e. omega arith), ne-eqb b 105 (λ e. omega arith))
+  special text g = simp (ne-eqb b 110 (λ e. omega arith), ne-eqb b 115 (λ e. omega arith), ne-eqb b 105 (λ e. omega arith))
 
-start : (g : Sign) (d q : List ℕ) → 1 ≤ length d → Mid d → readText (signText g ++ (d ++ q)) ≡ step3 (negative g) (before 101 (d ++ map lower q)) (from 101 (d ++ map lower q))
+start : (g : Sign) (d q : List ℕ) → 1 ≤ length d → Mid d → readAt (signText g ++ (d ++ q)) ≡ step3 (signText g ++ (d ++ q)) (negative g) (before 101 (d ++ map lower q)) (from 101 (d ++ map lower q))
 start g [] q l m = absurd (omega arith)
 start g (b ∷ r) q l m =
-    signed b (r ++ q) (m .0) (m .1) g ∙ rw (mid-lower (b ∷ r) q m) (special b (r ++ map lower q) (m .0) (m .1) (negative g))
+    signed b (r ++ q) (m .0) (m .1) g
+    ∙ rw (mid-lower (b ∷ r) q m) (special b (r ++ map lower q) (m .0) (m .1) _ (negative g))
 
 -- ---- steps 3 and 5: the exponent part
 
@@ -127,10 +128,10 @@ marked minus s e w =
     downward-is s (w .0) (w .1) l ∙ ap written f
 
 -- what stands after the `e` is not empty
-step3-is : (g : Bool) (dec s : List ℕ) (e : ℕ) → exponent s ≡ written e → step3 g dec (101 ∷ s) ≡ step4 g dec (written e)
+step3-is : (text : List ℕ) (g : Bool) (dec s : List ℕ) (e : ℕ) → exponent s ≡ written e → step3 text g dec (101 ∷ s) ≡ step4 text g dec (written e)
 unfolding step3 exponent
-step3-is g dec [] e w = absurd (let z : _≡_ {A = ℕ} 0 1 = cc in omega arith)
-step3-is g dec (b ∷ s) e w = ap (step4 g dec) w
+step3-is text g dec [] e w = absurd (let z : _≡_ {A = ℕ} 0 1 = cc in omega arith)
+step3-is text g dec (b ∷ s) e w = ap (step4 text g dec) w
 
 lower-sign : (g : Sign) (s : List ℕ) → allDigits s ≡ true → map lower (signText g ++ s) ≡ signText g ++ s
 lower-sign none s p = lower-digits s p
@@ -138,12 +139,12 @@ lower-sign plus s p = ap (λ (l : List ℕ). 43 ∷ l) (lower-digits s p)
 lower-sign minus s p = ap (λ (l : List ℕ). 45 ∷ l) (lower-digits s p)
 
 -- the decimal part d, and what stands after it
-split : (g : Bool) (d : List ℕ) (w : Power) (e : ℕ) → Free 101 d → WrittenE w e → step3 g (before 101 (d ++ map lower (powerText w))) (from 101 (d ++ map lower (powerText w))) ≡ step4 g d (written e)
+split : (text : List ℕ) (g : Bool) (d : List ℕ) (w : Power) (e : ℕ) → Free 101 d → WrittenE w e → step3 text g (before 101 (d ++ map lower (powerText w))) (from 101 (d ++ map lower (powerText w))) ≡ step4 text g d (written e)
 unfolding before from step3
-split g d noPower e f w = rw (before-free 101 d [] f, from-free 101 d [] f, append-nil, w)
-split g d (power big m ds) e f w =
+split text g d noPower e f w = rw (before-free 101 d [] f, from-free 101 d [] f, append-nil, w)
+split text g d (power big m ds) e f w =
     rw (letter-low big, lower-sign m ds (w .1), before-free 101 d (101 ∷ signText m ++ ds) f, from-free 101 d (101 ∷ signText m ++ ds) f, append-nil)
-    (step3-is g d (signText m ++ ds) e (marked m ds e w))
+    (step3-is text g d (signText m ++ ds) e (marked m ds e w))
 
 -- ---- step 4: the decimal part
 
@@ -180,9 +181,9 @@ unfolding from
 fraction-is w noPoint p = ap (drop 1) (from-free 46 w [] (digits-free w p))
 fraction-is w (point s) p = ap (drop 1) (from-free 46 w (46 ∷ s) (digits-free w p))
 
-six : (g : Bool) (w : List ℕ) (f : Fraction) (x : ℕ) → allDigits w ≡ true → step6 g (w ++ fractionText f) (x + length (after f)) ≡ step7 g x (stripZeros (w ++ after f))
+six : (text : List ℕ) (g : Bool) (w : List ℕ) (f : Fraction) (x : ℕ) → allDigits w ≡ true → step6 text g (w ++ fractionText f) (x + length (after f)) ≡ step7 text g x (stripZeros (w ++ after f))
 unfolding step6
-six g w f x p =
+six text g w f x p =
     let l : length (after f) ≤ x + length (after f) = omega arith in
     let e : x + length (after f) - length (after f) ≡ x = omega arith in
     rw (fraction-is w f p, whole-is w f p, le-leb _ _ l, e)
@@ -193,22 +194,25 @@ length-parts : (w : List ℕ) (f : Fraction) → 1 ≤ length (w ++ after f) →
 length-parts w noPoint l = l
 length-parts w (point s) l = simp length-append (omega arith)
 
-pub reads : (t : FiniteText) (x : ℕ) → Grammatical t x → readText (textOf t) ≡ step7 (negative (t .sign)) x (stripZeros (digitsOf t))
+pub reads : (t : FiniteText) (x : ℕ) → Grammatical t x → readAt (textOf t) ≡ step7 (textOf t) (negative (t .sign)) x (stripZeros (digitsOf t))
 unfolding step4 step5
 reads t x h =
     let d = digits-parts (t .whole) (after (t .fraction)) (h .digits) in
     let dec = t .whole ++ fractionText (t .fraction) in
     let m : Mid dec = mid-append (t .whole) (fractionText (t .fraction)) (mid-digits (t .whole) (d .0)) (mid-fraction (t .fraction) (d .1)) in
-    ap readText (ap (λ (l : List ℕ). l ++ powerText (t .power)) (append-assoc (signText (t .sign)) (t .whole) (fractionText (t .fraction))) ∙ append-assoc (signText (t .sign)) dec (powerText (t .power)))
+    let apart : textOf t ≡ signText (t .sign) ++ (dec ++ powerText (t .power)) =
+    ap (λ (l : List ℕ). l ++ powerText (t .power)) (append-assoc (signText (t .sign)) (t .whole) (fractionText (t .fraction))) ∙ append-assoc (signText (t .sign)) dec (powerText (t .power)) in
+    ap readAt apart
     ∙ start (t .sign) dec (powerText (t .power)) (length-parts (t .whole) (t .fraction) (h .some)) m
-    ∙ split (negative (t .sign)) dec (t .power) (x + length (after (t .fraction))) (mid-free dec m) (h .written)
-    ∙ rw (decimal (t .whole) (t .fraction) (d .0) (d .1) (h .some)) (six (negative (t .sign)) (t .whole) (t .fraction) x (d .0))
+    ∙ rw (← apart)
+    (split (textOf t) (negative (t .sign)) dec (t .power) (x + length (after (t .fraction))) (mid-free dec m) (h .written)
+    ∙ rw (decimal (t .whole) (t .fraction) (d .0) (d .1) (h .some)) (six (textOf t) (negative (t .sign)) (t .whole) (t .fraction) x (d .0)))
 
 -- the value that is written decides
 pub outcome : (t : FiniteText) (x : ℕ) → Grammatical t x → Outcome (negative (t .sign)) (wholeOf t) x (readText (textOf t))
 outcome t x h =
-    rw (reads t x h)
-    (rw strip-number at (seven (negative (t .sign)) x (stripZeros (digitsOf t)) (strip-digits (digitsOf t) (h .digits)) (strip-leading (digitsOf t))))
+    rw (ap (λ (a : Located). a .reading) (reads t x h))
+    (rw strip-number at (seven (textOf t) (negative (t .sign)) x (stripZeros (digitsOf t)) (strip-digits (digitsOf t) (h .digits)) (strip-leading (digitsOf t))))
 
 pub demand3 : Demand3
 unfolding Outcome

@@ -9,5 +9,6 @@ pub mod Edges
 pub mod Lengths
 pub mod Back
 pub mod Bytes
-pub mod Records
+pub mod Places
 pub mod Refused
+pub mod Records

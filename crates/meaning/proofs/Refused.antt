@@ -1,84 +1,157 @@
--- A reading is refused by one of the numbers 1 to 7.
-use mathlib.Core.Path.{_≡_, refl, subst}
-use mathlib.Core.Bool.{Bool, true, false, cond, _||_}
-use mathlib.Core.List.{List, [], _∷_}
-use Prim.Native.Nat.{ℕ, _+_, _-_, _≤_}
+-- A reading is refused by one of the numbers 1 to 7, at a place in its text.
+use mathlib.Core.Path.{_≡_, refl, sym, subst, _∙_}
+use mathlib.Core.Logic.{inl, inr}
+use mathlib.Core.Bool.{Bool, true, false, cond, _||_, true≢false}
+use mathlib.Core.List.{List, [], _∷_, map}
+use Prim.Native.Nat.{ℕ, _+_, _-_, _≤_, _<_}
+use native.Mathlib.Omega.{arith}
 use lib.Dec.{eqb, leb, lit≤}
-use lib.ListN.{length, drop}
+use lib.ListN.{length, take, drop}
+use borrow.Author.Tests.{eqb-true}
 use Rattle.meaning.specs.Refusals.{Refusal, numberOf}
+use Rattle.meaning.specs.Refusals.Refusal.{overflow}
 use Rattle.meaning.specs.Decimal.{Decimal}
-use Rattle.meaning.specs.Reading.{Reading, Written, bytes, same, allZeros, holds, decimalPart, fraction, low, high, lost, step2, step3, step4, step5, step6, step7, step8, step9, step10, step11, readText}
+use Rattle.meaning.specs.Reading.{Reading, Located, Written, refusedAt, acceptedAs, bytes, lower, same, allZeros, holds, decimalPart, before, from, fraction, runOf, low, high, lost, theE, afterE, signLength, decimalOf, secondPoint, firstCut, step2, step3, step4, step5, step6, step7, step8, step9, step10, step11, readAt, readText}
 use Rattle.meaning.specs.Reading.Reading.{refused, accepted}
 use Rattle.meaning.specs.Reading.Written.{written, wrong}
-use Rattle.meaning.specs.Promises.{RefusesBy1To7}
+use Rattle.meaning.specs.Promises.{RefusesBy1To7, EveryPlaceIsWithin, NamedBytesAreThere, AcceptedCarriesZero, namesAByte}
+use Rattle.meaning.proofs.Places.{either-true, from-holds, take-holds, take-other, padded-holds, decimal-signed, decimal-unsigned, e-there, after-within, wrong-within, second-there, cut-there}
 
-data Small : Reading → Type 0 where
-  number : {r : Refusal} → numberOf r ≤ 7 → Small (refused r)
-  none : {v : Decimal} → Small (accepted v)
+-- a refusal is one of 1 to 7, and its place is in the text
+data Fair (text : List ℕ) : Located → Type 0 where
+  byte : {r : Refusal} {p : ℕ} → numberOf r ≤ 7 → p < length text → Fair text (refusedAt r p)
+  offset : {r : Refusal} {p : ℕ} → numberOf r ≤ 7 → namesAByte r ≡ false → p ≤ length text → Fair text (refusedAt r p)
+  none : {v : Decimal} → Fair text (acceptedAs v)
 
--- either way of a test
-both-ways : (t : Bool) {a b : Reading} → Small a → Small b → Small (cond t a b)
-both-ways true p q = p
-both-ways false p q = q
+-- either way of a test; what it says may be used
+both-ways : {text : List ℕ} (t : Bool) {a b : Located} → (t ≡ true → Fair text a) → (t ≡ false → Fair text b) → Fair text (cond t a b)
+both-ways true p q = p refl
+both-ways false p q = q refl
 
-module _ (sign : Bool) where
-  small11 : (x : ℕ) (run : List ℕ) → Small (step11 sign x run)
+-- a run whose second point and whose bytes to be cut are in the text
+record Lies (text run : List ℕ) : Type 0 where
+  second : holds 46 run ≡ true → secondPoint text < length text
+  cut : (n : ℕ) → allZeros (drop n run) ≡ false → firstCut n text < length text
+
+lies-take : {text run : List ℕ} (k : ℕ) → Lies text run → Lies text (take k run)
+lies-take {text} {run} k l =
+    record {
+      second = λ h. l .second (take-holds 46 k run h);
+      cut = λ n z. l .cut n (take-other n k run z);
+    }
+
+module _ (text : List ℕ) (sign : Bool) where
+  fair11 : (x : ℕ) (run : List ℕ) → (holds 46 run ≡ true → secondPoint text < length text) → Fair text (step11 text sign x run)
   unfolding step11 numberOf
-  small11 x run = both-ways (holds 46 run) (number (lit≤ tt)) none
+  fair11 x run l = both-ways (holds 46 run) (λ h. byte (lit≤ tt) (l h)) (λ _. none)
 
-  small10 : (x : ℕ) (run : List ℕ) → Small (step10 sign x run)
-  unfolding step10 numberOf
-  small10 x run =
-      both-ways (leb x high) (small11 x run)
-      (both-ways (leb (length run + (x - high)) 34) (small11 _ _) (number (lit≤ tt)))
+  over : Fair text (refusedAt overflow (afterE text))
+  unfolding numberOf namesAByte
+  over = offset (lit≤ tt) refl (after-within text)
 
-  small9 : (x : ℕ) (run : List ℕ) → Small (step9 sign x run)
+  fair10 : (x : ℕ) (run : List ℕ) → Lies text run → Fair text (step10 text sign x run)
+  unfolding step10
+  fair10 x run l =
+      both-ways (leb x high)
+      (λ _. fair11 x run (l .second))
+      (λ _. both-ways (leb (length run + (x - high)) 34)
+      (λ _. fair11 _ _ (λ h. l .second (padded-holds run (x - high) h)))
+      (λ _. over))
+
+  fair9 : (x : ℕ) (run : List ℕ) → Lies text run → Fair text (step9 text sign x run)
   unfolding step9 numberOf
-  small9 x run =
-      both-ways (leb low x) (small10 x run)
-      (both-ways (leb (low - x) (length run))
-      (both-ways (allZeros (lost (low - x) run)) (small10 _ _) (number (lit≤ tt)))
-      (number (lit≤ tt)))
+  fair9 x run l =
+      both-ways (leb low x)
+      (λ _. fair10 x run l)
+      (λ _. both-ways (leb (low - x) (length run))
+      (λ _. both-ways (allZeros (lost (low - x) run))
+      (λ _. fair10 _ _ (lies-take (length run - (low - x)) l))
+      (λ z. byte (lit≤ tt) (l .cut (length run - (low - x)) z)))
+      (λ _. over))
 
-  small8 : (x : ℕ) (run : List ℕ) → Small (step8 sign x run)
+  fair8 : (x : ℕ) (run : List ℕ) → Lies text run → Fair text (step8 text sign x run)
   unfolding step8 numberOf
-  small8 x run =
-      both-ways (leb (length run) 34) (small9 x run) (both-ways (allZeros (drop 34 run)) (small9 _ _) (number (lit≤ tt)))
+  fair8 x run l =
+      both-ways (leb (length run) 34)
+      (λ _. fair9 x run l)
+      (λ _. both-ways (allZeros (drop 34 run)) (λ _. fair9 _ _ (lies-take 34 l)) (λ z. byte (lit≤ tt) (l .cut 34 z)))
 
-  small7 : (x : ℕ) (run : List ℕ) → Small (step7 sign x run)
+  fair7 : (x : ℕ) (run : List ℕ) → Lies text run → Fair text (step7 text sign x run)
   unfolding step7
-  small7 x [] = none
-  small7 x (b ∷ s) = small8 x (b ∷ s)
+  fair7 x [] l = none
+  fair7 x (b ∷ s) l = fair8 x (b ∷ s) l
 
-  small5 : (dec : List ℕ) (w : Written) → Small (step5 sign dec w)
-  unfolding step5 step6 numberOf
-  small5 dec wrong = number (lit≤ tt)
-  small5 dec (written e) = both-ways (leb (length (fraction dec)) e) (small7 _ _) (number (lit≤ tt))
+  module _ (dec : List ℕ) (is : dec ≡ decimalOf text) where
+    lies : Lies text (runOf dec)
+    lies = rw is (record { second = second-there text; cut = cut-there text })
 
-  small4 : (dec : List ℕ) (w : Written) → Small (step4 sign dec w)
-  unfolding step4 numberOf
-  small4 dec w = both-ways (decimalPart false dec) (small5 dec w) (number (lit≤ tt))
+    fair5 : (w : Written) → Fair text (step5 text sign dec w)
+    unfolding step5 step6 numberOf namesAByte
+    fair5 wrong = offset (lit≤ tt) refl (after-within text)
+    fair5 (written e) =
+        both-ways (leb (length (fraction dec)) e) (λ _. fair7 _ _ lies) (λ _. offset (lit≤ tt) refl (after-within text))
 
-  small3 : (dec tail : List ℕ) → Small (step3 sign dec tail)
-  unfolding step3 numberOf
-  small3 dec [] = small4 dec _
-  small3 dec (e ∷ []) = number (lit≤ tt)
-  small3 dec (e ∷ b ∷ s) = small4 dec _
+    fair4 : (w : Written) → Fair text (step4 text sign dec w)
+    unfolding step4 numberOf namesAByte
+    fair4 w = both-ways (decimalPart false dec) (λ _. fair5 w) (λ _. offset (lit≤ tt) refl (wrong-within text))
 
-  small2 : (t : List ℕ) → Small (step2 sign t)
+    fair3 : (tail : List ℕ) → (1 ≤ length tail → theE text < length text) → Fair text (step3 text sign dec tail)
+    unfolding step3 numberOf
+    fair3 [] h = fair4 _
+    fair3 (e ∷ []) h = byte (lit≤ tt) (h (lit≤ tt))
+    fair3 (e ∷ b ∷ s) h = fair4 _
+
+  fair2 : (t : List ℕ) → before 101 t ≡ decimalOf text → (holds 101 t ≡ true → holds 101 (map lower text) ≡ true) → Fair text (step2 text sign t)
   unfolding step2
-  small2 t =
-      both-ways (same t (bytes "nan")) none
-      (both-ways (same t (bytes "snan")) none
-      (both-ways (same t (bytes "infinity") || same t (bytes "inf")) none (small3 _ _)))
+  fair2 t is h =
+      both-ways (same t (bytes "nan")) (λ _. none)
+      (λ _. both-ways (same t (bytes "snan")) (λ _. none)
+      (λ _. both-ways (same t (bytes "infinity") || same t (bytes "inf")) (λ _. none) (λ _. fair3 (before 101 t) is (from 101 t) (λ l. e-there text (h (from-holds 101 t l))))))
 
-small : (s : List ℕ) → Small (readText s)
-unfolding readText
-small [] = small2 false []
-small (b ∷ s) = both-ways (eqb b 45) (small2 true _) (both-ways (eqb b 43) (small2 false _) (small2 false _))
+-- what stands after the sign, or the whole
+fair : (s : List ℕ) → Fair s (readAt s)
+unfolding readAt holds
+fair [] = fair2 [] false [] (unfold before signLength in refl) (λ h. h)
+fair (b ∷ s) =
+    both-ways (eqb b 45)
+    (λ e. fair2 (b ∷ s) true (map lower s) (decimal-signed b s (inl (eqb-true b 45 e))) (either-true (eqb (lower b) 101) _))
+    (λ e. both-ways (eqb b 43)
+    (λ f. fair2 (b ∷ s) false (map lower s) (decimal-signed b s (inr (eqb-true b 43 f))) (either-true (eqb (lower b) 101) _))
+    (λ f. fair2 (b ∷ s) false (map lower (b ∷ s)) (decimal-unsigned b s e f) (λ h. h)))
+
+-- ---- what it says of a text
+
+within : {text : List ℕ} {a : Located} → Fair text a → a .place ≤ length text
+within (byte n p) = omega arith
+within (offset n f p) = p
+within none = omega arith
+
+pub every-place-is-within : EveryPlaceIsWithin
+every-place-is-within s = within (fair s)
+
+-- what a fair refusal has
+record Has (text : List ℕ) (r : Refusal) (p : ℕ) : Type 0 where
+  small : numberOf r ≤ 7
+  there : namesAByte r ≡ true → p < length text
+
+has : {text : List ℕ} {a : Located} {r : Refusal} → Fair text a → a .reading ≡ refused r → Has text r (a .place)
+has {text} {r = r} (byte {r = q} {p = o} n p) e =
+    subst (λ (k : Refusal). Has text k o) (let f : q ≡ r = cc in f) (record { small = n; there = λ _. p })
+has {text} {r = r} (offset {r = q} {p = o} n f p) e =
+    subst (λ (k : Refusal). Has text k o) (let g : q ≡ r = cc in g) (record { small = n; there = λ b. absurd (true≢false (sym b ∙ f)) })
+has none e = absurd (let z : _≡_ {A = ℕ} 0 1 = cc in omega arith)
 
 pub refuses-by-1-to-7 : RefusesBy1To7
-refuses-by-1-to-7 s r e = of (subst (λ (a : Reading). Small a) e (small s))
-  where
-    of : {q : Refusal} → Small (refused q) → numberOf q ≤ 7
-    of (number h) = h
+refuses-by-1-to-7 s r e = has (fair s) e .small
+
+pub named-bytes-are-there : NamedBytesAreThere
+named-bytes-are-there s r e = has (fair s) e .there
+
+-- what is accepted has the place 0
+zero-place : {text : List ℕ} {a : Located} {v : Decimal} → Fair text a → a .reading ≡ accepted v → a .place ≡ 0
+zero-place (byte n p) e = absurd (let z : _≡_ {A = ℕ} 0 1 = cc in omega arith)
+zero-place (offset n f p) e = absurd (let z : _≡_ {A = ℕ} 0 1 = cc in omega arith)
+zero-place none e = refl
+
+pub accepted-carries-zero : AcceptedCarriesZero
+accepted-carries-zero s v e = zero-place (fair s) e

@@ -13,7 +13,7 @@ use borrow.Author.Tests.{le-leb, lt-leb, lt-ltb, le-ltb, eq-eqb, ne-eqb}
 use Rattle.meaning.specs.Decimal.{Decimal, InRange}
 use Rattle.meaning.specs.Decimal.Decimal.{nan, infinity, finite}
 use Rattle.meaning.specs.Reading
-use Rattle.meaning.specs.Reading.{Reading, number, allDigits, origin, low, high, bytes, readText, step2, same}
+use Rattle.meaning.specs.Reading.{Reading, number, allDigits, origin, low, high, bytes, readText, readAt, step2, same}
 use Rattle.meaning.specs.Reading.Reading.{refused, accepted}
 use Rattle.meaning.specs.Writing.{decimal, exponentText, exponential, plain, magnitude, signed, writeText}
 use Rattle.meaning.specs.Grammar.{Sign, Fraction, Power, FiniteText, WrittenE, Grammatical, Stores, Storable, Kept, SameValue, signText, negative, fractionText, after, powerText, textOf}
@@ -204,7 +204,7 @@ finite-back s e c b h =
     read-back s (magnitude (decimal c) e) c (e + low) h (omega arith) (omega (arith, range)) k ∙ rw q
 
 pub reads-what-was-written : ReadsWhatWasWritten
-unfolding writeText readText step2 same bytes
+unfolding writeText readAt step2 same bytes
 reads-what-was-written (nan s q) h = refl
 reads-what-was-written (infinity true) h = refl
 reads-what-was-written (infinity false) h = refl

@@ -9,7 +9,7 @@ use native.Mathlib.Omega.{arith}
 use lib.Pow.{pow-add}
 use lib.ListN.{length, take, drop, replicate, take-append-drop, length-append, length-replicate, length-take, length-drop}
 use borrow.Author.Tests.{le-leb, lt-leb}
-use Rattle.meaning.specs.Reading.{Reading, number, isDigit, allDigits, allZeros, low, high, holds, kept, lost, step7, step8, step9, step10, step11}
+use Rattle.meaning.specs.Reading.{Reading, refusedAt, number, isDigit, allDigits, allZeros, low, high, holds, kept, lost, step7, step8, step9, step10, step11}
 use Rattle.meaning.specs.Refusals.Refusal.{overflow, inexactRounding}
 use Rattle.meaning.specs.Decimal.Decimal.{nan, infinity, finite}
 use Rattle.meaning.specs.Reading.Reading.{refused, accepted}
@@ -146,20 +146,20 @@ keep sign a x c e p st near =
 
 -- ---- steps 10 and 11
 
-eleven : (sign : Bool) (y : ℕ) (run : List ℕ) → allDigits run ≡ true → step11 sign y run ≡ accepted (finite sign (y - low) (number 0 run))
+eleven : (text : List ℕ) (sign : Bool) (y : ℕ) (run : List ℕ) → allDigits run ≡ true → step11 text sign y run .reading ≡ accepted (finite sign (y - low) (number 0 run))
 unfolding step11
-eleven sign y run h = rw (no-point run h)
+eleven text sign y run h = rw (no-point run h)
 
-module _ (sign : Bool) (a x y : ℕ) (run : List ℕ) (h : At a x y run) (l : low ≤ y) where
-  within : y ≤ high → Outcome sign a x (step10 sign y run)
+module _ (text : List ℕ) (sign : Bool) (a x y : ℕ) (run : List ℕ) (h : At a x y run) (l : low ≤ y) where
+  within : y ≤ high → Outcome sign a x (step10 text sign y run .reading)
   unfolding step10
   within u =
-      rw (le-leb y high u, eleven sign y run (h .of .digits))
+      rw (le-leb y high u, eleven text sign y run (h .of .digits))
       (keep sign a x (number 0 run) y (le-trans (pow-pos (h .of .k)) (h .of .lead))
       (record { small = number-small run (h .of .digits) (omega (arith, h .of .len, h .small)); above = l; below = u; same = same-up a x (number 0 run) y (h .of .raised) (h .of .value) })
       (λ c e st. ⊎-elim (λ z. omega arith) (λ f. omega (arith, h .of .raised, f c e st)) (h .lowest)))
 
-  padded : high < y → x ≡ y → length run + (y - high) ≤ 34 → Outcome sign a x (step10 sign y run)
+  padded : high < y → x ≡ y → length run + (y - high) ≤ 34 → Outcome sign a x (step10 text sign y run .reading)
   unfolding step10
   padded u z f =
       let d = y - high in
@@ -169,12 +169,12 @@ module _ (sign : Bool) (a x y : ℕ) (run : List ℕ) (h : At a x y run) (l : lo
       let val : a ≡ number 0 run = h .of .value ∙ rw (i, pow-zero, mul-one) in
       let q : x - high ≡ y - high = omega arith in
       let v : number 0 more ≡ a * 10 ^ (x - high) = number-split run (replicate d 48) ∙ rw (length-replicate, zeros-number (replicate d 48) (zeros-zeros d), add-zero, q, val) in
-      rw (lt-leb y high u, le-leb _ 34 f, eleven sign high more dg)
+      rw (lt-leb y high u, le-leb _ 34 f, eleven text sign high more dg)
       (keep sign a x (number 0 more) high (rw v (mul-le-mul (run-pos (h .of)) (pow-pos (x - high))))
       (record { small = number-small more dg (simp (length-append, length-replicate) f); above = omega (arith, range); below = omega arith; same = same-down a x (number 0 more) high (omega arith) v })
       (λ c e st. omega (arith, st .below)))
 
-  over : high < y → 34 < length run + (y - high) → Outcome sign a x (step10 sign y run)
+  over : high < y → 34 < length run + (y - high) → Outcome sign a x (step10 text sign y run .reading)
   unfolding step10 Outcome
   over u f = rw (lt-leb y high u, lt-leb _ 34 f) (inr (
     none (run-pos (h .of)) (λ c e p st. ⊎-elim
@@ -184,7 +184,7 @@ module _ (sign : Bool) (a x y : ℕ) (run : List ℕ) (h : At a x y run) (l : lo
     inl refl,
   ))
 
-  ten : Outcome sign a x (step10 sign y run)
+  ten : Outcome sign a x (step10 text sign y run .reading)
   ten =
       ⊎-elim within
       (λ u. ⊎-elim (λ f. padded u (⊎-elim (λ z. z) (λ w. ⊎-elim (λ k. absurd (omega (arith, h .of .len))) (λ k. absurd (omega (arith, range))) w) (h .full)) f) (over u) (le-or (length run + (y - high)) 34))
@@ -192,23 +192,23 @@ module _ (sign : Bool) (a x y : ℕ) (run : List ℕ) (h : At a x y run) (l : lo
 
 -- ---- step 9
 
-module _ (sign : Bool) (a x y : ℕ) (run : List ℕ) (h : At a x y run) (l : y < low) where
+module _ (text : List ℕ) (sign : Bool) (a x y : ℕ) (run : List ℕ) (h : At a x y run) (l : y < low) where
   -- every place at which it could be stored is far above
   far : (c e : ℕ) → Stores a x c e → number 0 run ≡ c * 10 ^ (e - y)
   far c e st = stored-run (h .of) c e (omega (arith, st .above)) st
 
-  cut : (t : Bool) → low - y ≤ length run → allZeros (lost (low - y) run) ≡ t → Outcome sign a x (cond t (step10 sign low (kept (low - y) run)) (refused inexactRounding))
+  cut : (t : Bool) (p : ℕ) → low - y ≤ length run → allZeros (lost (low - y) run) ≡ t → Outcome sign a x (cond t (step10 text sign low (kept (low - y) run)) (refusedAt inexactRounding p) .reading)
   unfolding Outcome
-  cut true f z =
+  cut true p f z =
       let r = raise (low - y) (h .of) f z in
       let q : y + (low - y) ≡ low = omega arith in
       let r′ : Run a x low (kept (low - y) run) = subst (λ (n : ℕ). Run a x n (kept (low - y) run)) q (r .0) in
-      ten sign a x low (kept (low - y) run)
+      ten text sign a x low (kept (low - y) run)
       (record { of = r′; small = omega (arith, r .1, h .small, h .of .len); lowest = inr (λ c e st. st .above); full = inr (inr refl) })
       (omega arith)
-  cut false f z =
+  cut false p f z =
       inr (
-        none (run-pos (h .of)) (λ c e p st.
+        none (run-pos (h .of)) (λ c e q st.
             let b = cut-zeros run (low - y) f c (e - y) (h .of .digits) (far c e st) (omega (arith, st .above)) in
             absurd (true≢false (sym b ∙ z))),
         inr refl,
@@ -226,20 +226,20 @@ module _ (sign : Bool) (a x y : ℕ) (run : List ℕ) (h : At a x y run) (l : y 
         inl refl,
       )
 
-  nine-low : Outcome sign a x (step9 sign y run)
+  nine-low : Outcome sign a x (step9 text sign y run .reading)
   unfolding step9
   nine-low =
       rw (lt-leb low y l)
-      (⊎-elim (λ f. rw (le-leb (low - y) (length run) f) (cut (allZeros (lost (low - y) run)) f refl)) (λ f. rw (lt-leb (low - y) (length run) f) (gone f)) (le-or (low - y) (length run)))
+      (⊎-elim (λ f. rw (le-leb (low - y) (length run) f) (cut (allZeros (lost (low - y) run)) _ f refl)) (λ f. rw (lt-leb (low - y) (length run) f) (gone f)) (le-or (low - y) (length run)))
 
-nine : (sign : Bool) (a x y : ℕ) (run : List ℕ) → At a x y run → Outcome sign a x (step9 sign y run)
+nine : (text : List ℕ) (sign : Bool) (a x y : ℕ) (run : List ℕ) → At a x y run → Outcome sign a x (step9 text sign y run .reading)
 unfolding step9
-nine sign a x y run h =
-    ⊎-elim (λ l. rw (le-leb low y l) (ten sign a x y run h l)) (λ l. nine-low sign a x y run h l) (le-or low y)
+nine text sign a x y run h =
+    ⊎-elim (λ l. rw (le-leb low y l) (ten text sign a x y run h l)) (λ l. nine-low text sign a x y run h l) (le-or low y)
 
 -- ---- step 8
 
-module _ (sign : Bool) (a x : ℕ) (run : List ℕ) (h : Run a x x run) (l : 34 < length run) where
+module _ (text : List ℕ) (sign : Bool) (a x : ℕ) (run : List ℕ) (h : Run a x x run) (l : 34 < length run) where
   up : (c e : ℕ) → Stores a x c e → x + (length run - 34) ≤ e
   up c e st =
       ⊎-elim (λ p. p)
@@ -255,28 +255,28 @@ module _ (sign : Bool) (a x : ℕ) (run : List ℕ) (h : Run a x x run) (l : 34 
   same-length : length run - (length run - 34) ≡ 34
   same-length = omega arith
 
-  long : (t : Bool) → allZeros (drop 34 run) ≡ t → Outcome sign a x (cond t (step9 sign (x + (length run - 34)) (take 34 run)) (refused inexactRounding))
+  long : (t : Bool) (p : ℕ) → allZeros (drop 34 run) ≡ t → Outcome sign a x (cond t (step9 text sign (x + (length run - 34)) (take 34 run)) (refusedAt inexactRounding p) .reading)
   unfolding Outcome
-  long true z =
+  long true p z =
       let r = raise (length run - 34) h (omega arith) (rw same-length z) in
       let r′ : Run a x (x + (length run - 34)) (take 34 run) = subst (λ (n : ℕ). Run a x (x + (length run - 34)) (take n run)) same-length (r .0) in
-      nine sign a x (x + (length run - 34)) (take 34 run)
+      nine text sign a x (x + (length run - 34)) (take 34 run)
       (record { of = r′; small = omega (arith, r .1); lowest = inr up; full = inr (inl (omega (arith, r .1))) })
-  long false z =
+  long false p z =
       inr (
-        none (run-pos h) (λ c e p st.
+        none (run-pos h) (λ c e q st.
             let u = up c e st in
             let b = cut-zeros run (length run - 34) (omega arith) c (e - x) (h .digits) (stored-run h c e (omega arith) st) (omega arith) in
             absurd (true≢false (sym (rw same-length at b) ∙ z))),
         inr refl,
       )
 
-eight : (sign : Bool) (a x : ℕ) (run : List ℕ) → Run a x x run → Outcome sign a x (step8 sign x run)
+eight : (text : List ℕ) (sign : Bool) (a x : ℕ) (run : List ℕ) → Run a x x run → Outcome sign a x (step8 text sign x run .reading)
 unfolding step8
-eight sign a x run h =
+eight text sign a x run h =
     ⊎-elim
-    (λ l. rw (le-leb _ 34 l) (nine sign a x x run (record { of = h; small = omega (arith, h .len); lowest = inl refl; full = inl refl })))
-    (λ l. rw (lt-leb _ 34 l) (long sign a x run h l (allZeros (drop 34 run)) refl))
+    (λ l. rw (le-leb _ 34 l) (nine text sign a x x run (record { of = h; small = omega (arith, h .len); lowest = inl refl; full = inl refl })))
+    (λ l. rw (lt-leb _ 34 l) (long text sign a x run h l (allZeros (drop 34 run)) _ refl))
     (le-or (length run) 34)
 
 -- ---- step 7
@@ -307,12 +307,12 @@ zero-kept sign x =
       },
     )
 
-pub seven : (sign : Bool) (x : ℕ) (run : List ℕ) → allDigits run ≡ true → Leading run → Outcome sign (number 0 run) x (step7 sign x run)
+pub seven : (text : List ℕ) (sign : Bool) (x : ℕ) (run : List ℕ) → allDigits run ≡ true → Leading run → Outcome sign (number 0 run) x (step7 text sign x run .reading)
 unfolding step7
-seven sign x [] d l = unfold number in zero-kept sign x
-seven sign x (b ∷ s) d l =
+seven text sign x [] d l = unfold number in zero-kept sign x
+seven text sign x (b ∷ s) d l =
     let p = byte-digit b (both (isDigit b) (allDigits s) (unfold allDigits in d) .0) in
     let q : 49 ≤ b = ⊎-elim (λ g. absurd (l (omega arith))) (λ g. g) (le-or b 48) in
     let i : x - x ≡ 0 = omega arith in
-    eight sign (number 0 (b ∷ s)) x (b ∷ s)
+    eight text sign (number 0 (b ∷ s)) x (b ∷ s)
     (record { k = length s; raised = omega arith; value = sym (rw (i, pow-zero, mul-one)); digits = d; len = omega arith; lead = number-ge b s q })

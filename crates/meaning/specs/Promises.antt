@@ -6,12 +6,12 @@ use mathlib.Core.Bool.{Bool, true, false}
 use mathlib.Core.List.{List, _++_, map}
 use lib.ListN.{length, getD}
 use Rattle.meaning.specs.Refusals.{Refusal, numberOf}
-use Rattle.meaning.specs.Refusals.Refusal.{overflow, inexactRounding}
+use Rattle.meaning.specs.Refusals.Refusal.{emptyExponent, invalidExponent, invalidCoefficient, overflow, underflow, inexactRounding, unparseable, malformedBytes, noRoom, lineTooLong}
 use Rattle.meaning.specs.Decimal.{Decimal, InRange}
 use Rattle.meaning.specs.Decimal.Decimal.{nan, infinity, finite}
 use Rattle.meaning.specs.Layout.{stored, bytesOf, decode, encode}
 use Rattle.meaning.specs.Bits.{decodeBits, canonical, comesBackAs}
-use Rattle.meaning.specs.Reading.{Reading, readText}
+use Rattle.meaning.specs.Reading.{Reading, readAt, readText}
 use Rattle.meaning.specs.Reading.Reading.{refused, accepted}
 use Rattle.meaning.specs.Writing.{writeText, debugText}
 use Rattle.meaning.specs.Answers.{numberGiven, bytesGiven}
@@ -68,6 +68,30 @@ AcceptsOnlyTheGrammar =
 abbrev pub RefusesBy1To7 : Type 0
 RefusesBy1To7 = (s : List ℕ) (r : Refusal) → readText s ≡ refused r → numberOf r ≤ 7
 
+-- a place is an offset in the text, or its length
+abbrev pub EveryPlaceIsWithin : Type 0
+EveryPlaceIsWithin = (s : List ℕ) → readAt s .place ≤ length s
+
+-- 1, 3 and 6 name a byte that is there
+unfoldable pub namesAByte : Refusal → Bool
+namesAByte emptyExponent = true
+namesAByte invalidExponent = false
+namesAByte invalidCoefficient = true
+namesAByte overflow = false
+namesAByte underflow = false
+namesAByte inexactRounding = true
+namesAByte unparseable = false
+namesAByte malformedBytes = false
+namesAByte noRoom = false
+namesAByte lineTooLong = false
+
+abbrev pub NamedBytesAreThere : Type 0
+NamedBytesAreThere =
+    (s : List ℕ) (r : Refusal) → readText s ≡ refused r → namesAByte r ≡ true → readAt s .place < length s
+
+abbrev pub AcceptedCarriesZero : Type 0
+AcceptedCarriesZero = (s : List ℕ) (v : Decimal) → readText s ≡ accepted v → readAt s .place ≡ 0
+
 -- what is accepted is in range of the format
 abbrev pub ReadsInRange : Type 0
 ReadsInRange = (s : List ℕ) (v : Decimal) → readText s ≡ accepted v → InRange v
@@ -84,12 +108,12 @@ FortyTwoIsMet = (length (writeText (finite true 6137 (10 ^ 34 - 1))) ≡ 42) × 
 abbrev pub DebugFormHas44 : Type 0
 DebugFormHas44 = (s : List ℕ) → length s ≡ 16 → length (debugText s) ≡ 44
 
-abbrev pub RecordHasAtMost78 : Type 0
-RecordHasAtMost78 = (s : List ℕ) → length (lineRecord s) ≤ 78
+abbrev pub RecordHasAtMost80 : Type 0
+RecordHasAtMost80 = (s : List ℕ) → length (lineRecord s) ≤ 80
 
 -- `-9.999..E-6143`
-abbrev pub SeventyEightIsMet : Type 0
-SeventyEightIsMet = (s : List ℕ) × (length (lineRecord s) ≡ 78)
+abbrev pub EightyIsMet : Type 0
+EightyIsMet = (s : List ℕ) × (length (lineRecord s) ≡ 80)
 
 -- ---- the round trip
 

@@ -19,6 +19,18 @@ pub data Reading : Type 0 where
   refused : Refusal → Reading
   accepted : Decimal → Reading
 
+-- a reading, and the place that a refusal names: document 02, ticket 2
+pub record Located : Type 0 where
+  pub reading : Reading
+  pub place : ℕ
+
+abbrev pub refusedAt : Refusal → ℕ → Located
+refusedAt r p = record { reading = refused r; place = p }
+
+-- accepted carries 0
+abbrev pub acceptedAs : Decimal → Located
+acceptedAs v = record { reading = accepted v; place = 0 }
+
 -- the exponents 0, -6176 and 6111
 unfoldable pub origin : ℕ
 origin = 2 ^ 127
@@ -86,53 +98,98 @@ kept d run = take (length run - d) run
 abbrev pub lost : ℕ → List ℕ → List ℕ
 lost d run = drop (length run - d) run
 
--- ---- the steps; `sign` says whether the text begins with `-`, `x` is step 6's x, `run` is what is left of the decimal part
-
--- 11: the run still holds a point
-unfoldable pub step11 : Bool → ℕ → List ℕ → Reading
-step11 sign x run =
-    cond (holds 46 run) (refused invalidCoefficient) (accepted (finite sign (x - low) (number 0 run)))
-
--- 10: x above 6111
-unfoldable pub step10 : Bool → ℕ → List ℕ → Reading
-step10 sign x run =
-    cond (leb x high)
-    (step11 sign x run)
-    (cond (leb (length run + (x - high)) 34)
-    (step11 sign high (run ++ replicate (x - high) 48))
-    (refused overflow))
-
--- 9: x below -6176
-unfoldable pub step9 : Bool → ℕ → List ℕ → Reading
-step9 sign x run =
-    cond (leb low x)
-    (step10 sign x run)
-    (cond (leb (low - x) (length run))
-    (cond (allZeros (lost (low - x) run)) (step10 sign low (kept (low - x) run)) (refused inexactRounding))
-    (refused overflow))
-
--- 8: a run longer than 34
-unfoldable pub step8 : Bool → ℕ → List ℕ → Reading
-step8 sign x run =
-    cond (leb (length run) 34)
-    (step9 sign x run)
-    (cond (allZeros (drop 34 run)) (step9 sign (x + (length run - 34)) (take 34 run)) (refused inexactRounding))
-
--- 7: the leading zeros are gone; where nothing is left the run is `0`
-unfoldable pub step7 : Bool → ℕ → List ℕ → Reading
-step7 sign x [] = accepted (finite sign (min (max x low) high - low) 0)
-step7 sign x (b ∷ s) = step8 sign x (b ∷ s)
-
 -- the bytes after the first point, of which there are F
 abbrev pub fraction : List ℕ → List ℕ
 fraction dec = drop 1 (from 46 dec)
 
+-- the run of step 7: the first point and the leading zeros are gone
+abbrev pub runOf : List ℕ → List ℕ
+runOf dec = stripZeros (before 46 dec ++ fraction dec)
+
+-- ---- the places: offsets in the text as it was given, its sign counted, in the words of document 02, ticket 2
+
+-- 1: the `e`
+unfoldable pub theE : List ℕ → ℕ
+theE text = length (before 101 (map lower text))
+
+-- 2: the byte after the `e`. 4 and 5: that, or the text's length when there is none
+unfoldable pub afterE : List ℕ → ℕ
+afterE text = cond (holds 101 (map lower text)) (theE text + 1) (length text)
+
+unfoldable pub signLength : List ℕ → ℕ
+signLength [] = 0
+signLength (b ∷ s) = cond (eqb b 45 || eqb b 43) 1 0
+
+-- from the sign to the `e`, or to the end
+abbrev pub decimalOf : List ℕ → List ℕ
+decimalOf text = drop (signLength text) (before 101 (map lower text))
+
+-- 3: the second point
+unfoldable pub secondPoint : List ℕ → ℕ
+secondPoint text = signLength text + length (before 46 (decimalOf text)) + 1 + length (before 46 (fraction (decimalOf text)))
+
+-- how many digits and points there are before the first other byte, or the end
+unfoldable pub plainBytes : List ℕ → ℕ
+plainBytes [] = 0
+plainBytes (b ∷ s) = cond (isDigit b || eqb b 46) (1 + plainBytes s) 0
+
+-- 7: the first wrong byte of the decimal part, or its end if only a digit is missing
+unfoldable pub wrongByte : List ℕ → ℕ
+wrongByte text = signLength text + plainBytes (decimalOf text)
+
+-- where the last k bytes of a decimal part begin, its first point not counted
+unfoldable pub lastBytes : ℕ → List ℕ → ℕ
+lastBytes k dec =
+    cond (leb k (length (fraction dec))) (length dec - k) (length (before 46 dec) + length (fraction dec) - k)
+
+-- 6: the first byte other than `0` among those cut, where the first n of the run are kept
+unfoldable pub firstCut : ℕ → List ℕ → ℕ
+firstCut n text = signLength text + lastBytes (length (stripZeros (drop n (runOf (decimalOf text))))) (decimalOf text)
+
+-- ---- the steps; `text` is the text as it was given, `sign` says whether it begins with `-`, `x` is step 6's x, `run` is what
+-- is left of the decimal part
+
+-- 11: the run still holds a point
+unfoldable pub step11 : List ℕ → Bool → ℕ → List ℕ → Located
+step11 text sign x run =
+    cond (holds 46 run) (refusedAt invalidCoefficient (secondPoint text)) (acceptedAs (finite sign (x - low) (number 0 run)))
+
+-- 10: x above 6111
+unfoldable pub step10 : List ℕ → Bool → ℕ → List ℕ → Located
+step10 text sign x run =
+    cond (leb x high)
+    (step11 text sign x run)
+    (cond (leb (length run + (x - high)) 34)
+    (step11 text sign high (run ++ replicate (x - high) 48))
+    (refusedAt overflow (afterE text)))
+
+-- 9: x below -6176
+unfoldable pub step9 : List ℕ → Bool → ℕ → List ℕ → Located
+step9 text sign x run =
+    cond (leb low x)
+    (step10 text sign x run)
+    (cond (leb (low - x) (length run))
+    (cond (allZeros (lost (low - x) run)) (step10 text sign low (kept (low - x) run)) (refusedAt inexactRounding (firstCut (length run - (low - x)) text)))
+    (refusedAt overflow (afterE text)))
+
+-- 8: a run longer than 34
+unfoldable pub step8 : List ℕ → Bool → ℕ → List ℕ → Located
+step8 text sign x run =
+    cond (leb (length run) 34)
+    (step9 text sign x run)
+    (cond (allZeros (drop 34 run)) (step9 text sign (x + (length run - 34)) (take 34 run)) (refusedAt inexactRounding (firstCut 34 text)))
+
+-- 7: the leading zeros are gone; where nothing is left the run is `0`
+unfoldable pub step7 : List ℕ → Bool → ℕ → List ℕ → Located
+step7 text sign x [] = acceptedAs (finite sign (min (max x low) high - low) 0)
+step7 text sign x (b ∷ s) = step8 text sign x (b ∷ s)
+
 -- 6: x = E-F, and the first point is removed; e is E
-unfoldable pub step6 : Bool → List ℕ → ℕ → Reading
-step6 sign dec e =
+unfoldable pub step6 : List ℕ → Bool → List ℕ → ℕ → Located
+step6 text sign dec e =
     cond (leb (length (fraction dec)) e)
-    (step7 sign (e - length (fraction dec)) (stripZeros (before 46 dec ++ fraction dec)))
-    (refused underflow)
+    (step7 text sign (e - length (fraction dec)) (runOf dec))
+    (refusedAt underflow (afterE text))
 
 -- a written exponent, where it is one
 pub data Written : Type 0 where
@@ -156,9 +213,9 @@ exponent [] = wrong
 exponent (b ∷ s) = cond (eqb b 45) (downward s) (cond (eqb b 43) (upward s) (upward (b ∷ s)))
 
 -- 5: the exponent part
-unfoldable pub step5 : Bool → List ℕ → Written → Reading
-step5 sign dec wrong = refused invalidExponent
-step5 sign dec (written e) = step6 sign dec e
+unfoldable pub step5 : List ℕ → Bool → List ℕ → Written → Located
+step5 text sign dec wrong = refusedAt invalidExponent (afterE text)
+step5 text sign dec (written e) = step6 text sign dec e
 
 -- only digits and points, with at least one digit; seen: there was one before
 unfoldable pub decimalPart : Bool → List ℕ → Bool
@@ -166,30 +223,34 @@ decimalPart seen [] = seen
 decimalPart seen (b ∷ s) = cond (isDigit b) (decimalPart true s) (cond (eqb b 46) (decimalPart seen s) false)
 
 -- 4: the decimal part
-unfoldable pub step4 : Bool → List ℕ → Written → Reading
-step4 sign dec e = cond (decimalPart false dec) (step5 sign dec e) (refused unparseable)
+unfoldable pub step4 : List ℕ → Bool → List ℕ → Written → Located
+step4 text sign dec e = cond (decimalPart false dec) (step5 text sign dec e) (refusedAt unparseable (wrongByte text))
 
 -- 3: split at the first `e`; the third argument is what stands from it on
-unfoldable pub step3 : Bool → List ℕ → List ℕ → Reading
-step3 sign dec [] = step4 sign dec (written origin)
-step3 sign dec (e ∷ []) = refused emptyExponent
-step3 sign dec (e ∷ b ∷ s) = step4 sign dec (exponent (b ∷ s))
+unfoldable pub step3 : List ℕ → Bool → List ℕ → List ℕ → Located
+step3 text sign dec [] = step4 text sign dec (written origin)
+step3 text sign dec (e ∷ []) = refusedAt emptyExponent (theE text)
+step3 text sign dec (e ∷ b ∷ s) = step4 text sign dec (exponent (b ∷ s))
 
 -- 2: the special texts
-unfoldable pub step2 : Bool → List ℕ → Reading
-step2 sign t =
+unfoldable pub step2 : List ℕ → Bool → List ℕ → Located
+step2 text sign t =
     cond (same t (bytes "nan"))
-    (accepted (nan sign false))
+    (acceptedAs (nan sign false))
     (cond (same t (bytes "snan"))
-    (accepted (nan sign true))
+    (acceptedAs (nan sign true))
     (cond (same t (bytes "infinity") || same t (bytes "inf"))
-    (accepted (infinity sign))
-    (step3 sign (before 101 t) (from 101 t))))
+    (acceptedAs (infinity sign))
+    (step3 text sign (before 101 t) (from 101 t))))
 
 -- 1: one leading sign is removed, and letters A to Z count as a to z
-unfoldable pub readText : List ℕ → Reading
-readText [] = step2 false []
-readText (b ∷ s) =
+unfoldable pub readAt : List ℕ → Located
+readAt [] = step2 [] false []
+readAt (b ∷ s) =
     cond (eqb b 45)
-    (step2 true (map lower s))
-    (cond (eqb b 43) (step2 false (map lower s)) (step2 false (map lower (b ∷ s))))
+    (step2 (b ∷ s) true (map lower s))
+    (cond (eqb b 43) (step2 (b ∷ s) false (map lower s)) (step2 (b ∷ s) false (map lower (b ∷ s))))
+
+-- the reading alone
+abbrev pub readText : List ℕ → Reading
+readText text = readAt text .reading

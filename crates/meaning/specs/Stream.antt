@@ -1,4 +1,5 @@
--- The record of a text, and the records of a stream of lines: document 01, 'The line program', and ticket 1 of document 02.
+-- The record of a text, and the records of a stream of lines: document 01, 'The line program', and tickets 1 and 2 of
+-- document 02.
 use Prim.Native.Nat.{ℕ, _+_, _-_, _*_}
 use mathlib.Core.Bool.{Bool, true, cond, _&&_}
 use mathlib.Core.List.{List, [], _∷_, _++_}
@@ -6,7 +7,7 @@ use lib.ListN.{length}
 use lib.Dec.{eqb, leb, ltb}
 use Rattle.meaning.specs.Refusals.Refusal.{lineTooLong, malformedBytes}
 use Rattle.meaning.specs.Layout.{stored, bytesOf, decode, encode}
-use Rattle.meaning.specs.Reading.{Reading, isDigit, lower, readText}
+use Rattle.meaning.specs.Reading.{Reading, Located, isDigit, lower, readAt}
 use Rattle.meaning.specs.Reading.Reading.{refused, accepted}
 use Rattle.meaning.specs.Writing.{decimal, hexes, writeText, debugText}
 use Rattle.meaning.specs.Answers.{numberGiven}
@@ -16,13 +17,21 @@ abbrev pub fields : Reading → List ℕ
 fields (refused r) = 45 ∷ 9 ∷ 45 ∷ []
 fields (accepted v) = hexes (bytesOf 16 (encode v)) ++ 9 ∷ writeText v
 
--- the number, a tab, the fields, LF
-unfoldable pub recordText : Reading → List ℕ
-recordText r = decimal (numberGiven r) ++ 9 ∷ fields r ++ 10 ∷ []
+-- the number, a tab, the fields
+abbrev pub answerText : Reading → List ℕ
+answerText r = decimal (numberGiven r) ++ 9 ∷ fields r
+
+-- a tab, the place, LF
+unfoldable pub recordText : Located → List ℕ
+recordText r = answerText (r .reading) ++ 9 ∷ decimal (r .place) ++ 10 ∷ []
+
+-- `-` stands for the place of a text that is not read
+unfoldable pub unread : List ℕ
+unread = answerText (refused lineTooLong) ++ 9 ∷ 45 ∷ 10 ∷ []
 
 -- a text of more than 4,096 bytes is refused unread
 unfoldable pub lineRecord : List ℕ → List ℕ
-lineRecord s = recordText (cond (leb (length s) 4096) (readText s) (refused lineTooLong))
+lineRecord s = cond (leb (length s) 4096) (recordText (readAt s)) unread
 
 -- the text of a line: one CR as its last byte belongs to the line end
 unfoldable pub withoutCr : List ℕ → List ℕ
@@ -58,9 +67,13 @@ unhex [] = []
 unhex (a ∷ []) = []
 unhex (a ∷ b ∷ s) = (16 * hexValue a + hexValue b) ∷ unhex s
 
--- 0, the written text and the debug form; 8 and `-` twice for any other line
+-- 8, `-` and `-`: the line is no text, and has no place
+unfoldable pub malformed : List ℕ
+malformed = answerText (refused malformedBytes) ++ 10 ∷ []
+
+-- 0, the written text and the debug form; 8 for any other line
 unfoldable pub storedRecord : List ℕ → List ℕ
 storedRecord s =
     cond (eqb (length s) 32 && allHex s)
     (48 ∷ 9 ∷ writeText (decode (stored (unhex s))) ++ 9 ∷ debugText (unhex s) ++ 10 ∷ [])
-    (recordText (refused malformedBytes))
+    malformed

@@ -6,8 +6,7 @@ use Prim.Native.Nat.{ℕ, _+_, _-_, _*_, _≤_, _<_, min, max}
 use native.Mathlib.Omega.{arith}
 use lib.ListN.{length, take, replicate}
 use lib.Seq.{length-take-le}
-use Rattle.meaning.specs.Reading.{Reading, low, high, allZeros, kept, lost, step7, step8, step9, step11}
-use Rattle.meaning.specs.Reading.Reading.{refused, accepted}
+use Rattle.meaning.specs.Reading.{refusedAt, acceptedAs, low, high, allZeros, kept, lost, afterE, firstCut, step7, step8, step9, step11}
 use Rattle.meaning.specs.Decimal.Decimal.{finite}
 use Rattle.meaning.specs.Refusals.Refusal.{overflow, inexactRounding}
 use Rattle.limbs.specs.declared.wide.Stand.{Stand}
@@ -89,31 +88,31 @@ module _ (p i t : ℕ) (s : List ℕ) (h : i ≤ t) (l : t ≤ length s) (count 
     kept-length = length-run p i cut s (oc .after) (omega (arith, cut-within, end-text)) ∙ oc .count
 
     -- steps 9 and 10, where x stands as q says
-    module _ (g : Bool) (n : ℕ) (q : Stand) (e : q ≡ standAt n) (few : count ≤ 34) (eb : b ≡ q .below) (hb : b ≤ count) (ha : count + q .above ≤ 34) where
-      pub placed-left : step9 g n (take count (run p i t s)) ≡ cond (allZeros (run p cut end s)) (step11 g (low + q .field) (run p i cut s ++ replicate (q .above) 48)) (refused inexactRounding)
+    module _ (text : List ℕ) (g : Bool) (n : ℕ) (q : Stand) (e : q ≡ standAt n) (few : count ≤ 34) (eb : b ≡ q .below) (hb : b ≤ count) (ha : count + q .above ≤ 34) where
+      pub placed-left : step9 text g n (take count (run p i t s)) ≡ cond (allZeros (run p cut end s)) (step11 text g (low + q .field) (run p i cut s ++ replicate (q .above) 48)) (refusedAt inexactRounding (firstCut (count - b) text))
       placed-left =
-          rw (end-run, ← kept-run, ← lost-run)
-          (step9-left g n (run p i end s) (rw end-length few) b (q .above) (q .field) (eb ∙ below-is n q e) (above-is n q e) (field-is n q e) (rw end-length hb) (rw end-length ha))
+          rw (end-run, ← kept-run, ← lost-run, ← end-length)
+          (step9-left text g n (run p i end s) (rw end-length few) b (q .above) (q .field) (eb ∙ below-is n q e) (above-is n q e) (field-is n q e) (rw end-length hb) (rw end-length ha))
 
   -- x stands too far from the range for the run
-  module _ (g : Bool) (n : ℕ) (q : Stand) (e : q ≡ standAt n) (few : count ≤ 34) where
-    pub placed-below : count < q .below → step9 g n (take count (run p i t s)) ≡ refused overflow
+  module _ (text : List ℕ) (g : Bool) (n : ℕ) (q : Stand) (e : q ≡ standAt n) (few : count ≤ 34) where
+    pub placed-below : count < q .below → step9 text g n (take count (run p i t s)) ≡ refusedAt overflow (afterE text)
     placed-below k =
-        step9-below g n (take count (run p i t s)) (rw cut-length few) (rw (cut-length, ← below-is n q e) k)
+        step9-below text g n (take count (run p i t s)) (rw cut-length few) (rw (cut-length, ← below-is n q e) k)
 
-    pub placed-above : 34 < count + q .above → step9 g n (take count (run p i t s)) ≡ refused overflow
+    pub placed-above : 34 < count + q .above → step9 text g n (take count (run p i t s)) ≡ refusedAt overflow (afterE text)
     placed-above k =
-        step9-above g n (take count (run p i t s)) (rw cut-length few) (rw (cut-length, ← above-is n q e) k)
+        step9-above text g n (take count (run p i t s)) (rw cut-length few) (rw (cut-length, ← above-is n q e) k)
 
 -- ---- step 7: nothing is left of the run, or something
 
-module _ (g : Bool) (n : ℕ) where
-  pub step7-none : (run : List ℕ) (q : Stand) → length run ≡ 0 → q ≡ standAt n → step7 g n run ≡ accepted (finite g (q .field) 0)
+module _ (text : List ℕ) (g : Bool) (n : ℕ) where
+  pub step7-none : (run : List ℕ) (q : Stand) → length run ≡ 0 → q ≡ standAt n → step7 text g n run ≡ acceptedAs (finite g (q .field) 0)
   unfolding step7
   step7-none [] q l e = rw (field-is n q e)
   step7-none (b ∷ s) q l e = absurd (omega arith)
 
-  pub step7-some : (run : List ℕ) → (length run ≡ 0 → ⊥) → step7 g n run ≡ step8 g n run
+  pub step7-some : (run : List ℕ) → (length run ≡ 0 → ⊥) → step7 text g n run ≡ step8 text g n run
   unfolding step7
   step7-some [] l = absurd (l refl)
   step7-some (b ∷ s) l = refl
@@ -130,7 +129,7 @@ module _ (p i t : ℕ) (s : List ℕ) (h : i ≤ t) (l : t ≤ length s) (count 
   pub keep-within : end ≤ t
   keep-within = run-within p i keep end t s o h l keep-most
 
-  pub rounded-left : (g : Bool) (n : ℕ) → step8 g n (run p i t s) ≡ cond (allZeros (run p end t s)) (step9 g (n + (count - keep)) (take keep (run p i t s))) (refused inexactRounding)
-  rounded-left g n =
-      step8-left g n count keep (run p i t s) all ek
-      ∙ ap (λ (r : List ℕ). cond (allZeros r) (step9 g (n + (count - keep)) (take keep (run p i t s))) (refused inexactRounding)) (run-rest p i keep end t s o h l keep-most)
+  pub rounded-left : (text : List ℕ) (g : Bool) (n : ℕ) → step8 text g n (run p i t s) ≡ cond (allZeros (run p end t s)) (step9 text g (n + (count - keep)) (take keep (run p i t s))) (refusedAt inexactRounding (firstCut keep text))
+  rounded-left text g n =
+      step8-left text g n count keep (run p i t s) all ek
+      ∙ ap (λ (r : List ℕ). cond (allZeros r) (step9 text g (n + (count - keep)) (take keep (run p i t s))) (refusedAt inexactRounding (firstCut keep text))) (run-rest p i keep end t s o h l keep-most)

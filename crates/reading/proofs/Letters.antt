@@ -8,9 +8,8 @@ use native.Mathlib.Omega.{arith}
 use lib.Dec.{eqb}
 use lib.ListN.{length, getD, drop, drop-of-length-le}
 use borrow.Author.Tests.{ne-eqb}
-use Rattle.meaning.specs.Reading.{Reading, lower, bytes, same, before, from, decimalPart, step2, step3, step4, readText}
+use Rattle.meaning.specs.Reading.{refusedAt, acceptedAs, lower, bytes, same, before, from, decimalPart, step2, step3, step4, wrongByte, signLength, plainBytes, readAt}
 use Rattle.meaning.specs.Refusals.Refusal.{unparseable}
-use Rattle.meaning.specs.Reading.Reading.{refused, accepted}
 use Rattle.meaning.specs.Decimal.Decimal.{nan, infinity}
 use Rattle.reading.specs.Scan.{isPlain, decimals, firstAt}
 use Rattle.reading.specs.Split.{startOf}
@@ -52,26 +51,26 @@ e-none s n i h = rw (drop-of-length-le s h)
 
 -- ---- step 2
 
-module _ (g : Bool) (t : List ℕ) where
-  pub nan-is : same t (110 ∷ 97 ∷ 110 ∷ []) ≡ true → step2 g t ≡ accepted (nan g false)
+module _ (text : List ℕ) (g : Bool) (t : List ℕ) where
+  pub nan-is : same t (110 ∷ 97 ∷ 110 ∷ []) ≡ true → step2 text g t ≡ acceptedAs (nan g false)
   unfolding step2 bytes
   nan-is e = rw e
 
   module _ (a : same t (110 ∷ 97 ∷ 110 ∷ []) ≡ false) where
-    pub snan-is : same t (115 ∷ 110 ∷ 97 ∷ 110 ∷ []) ≡ true → step2 g t ≡ accepted (nan g true)
+    pub snan-is : same t (115 ∷ 110 ∷ 97 ∷ 110 ∷ []) ≡ true → step2 text g t ≡ acceptedAs (nan g true)
     unfolding step2 bytes
     snan-is e = rw (a, e)
 
     module _ (b : same t (115 ∷ 110 ∷ 97 ∷ 110 ∷ []) ≡ false) where
-      pub infinity-is : same t (105 ∷ 110 ∷ 102 ∷ 105 ∷ 110 ∷ 105 ∷ 116 ∷ 121 ∷ []) ≡ true → step2 g t ≡ accepted (infinity g)
+      pub infinity-is : same t (105 ∷ 110 ∷ 102 ∷ 105 ∷ 110 ∷ 105 ∷ 116 ∷ 121 ∷ []) ≡ true → step2 text g t ≡ acceptedAs (infinity g)
       unfolding step2 bytes
       infinity-is e = rw (a, b, e)
 
-      pub inf-is : same t (105 ∷ 110 ∷ 102 ∷ 105 ∷ 110 ∷ 105 ∷ 116 ∷ 121 ∷ []) ≡ false → same t (105 ∷ 110 ∷ 102 ∷ []) ≡ true → step2 g t ≡ accepted (infinity g)
+      pub inf-is : same t (105 ∷ 110 ∷ 102 ∷ 105 ∷ 110 ∷ 105 ∷ 116 ∷ 121 ∷ []) ≡ false → same t (105 ∷ 110 ∷ 102 ∷ []) ≡ true → step2 text g t ≡ acceptedAs (infinity g)
       unfolding step2 bytes
       inf-is e f = rw (a, b, e, f)
 
-      pub number-is : same t (105 ∷ 110 ∷ 102 ∷ 105 ∷ 110 ∷ 105 ∷ 116 ∷ 121 ∷ []) ≡ false → same t (105 ∷ 110 ∷ 102 ∷ []) ≡ false → step2 g t ≡ step3 g (before 101 t) (from 101 t)
+      pub number-is : same t (105 ∷ 110 ∷ 102 ∷ 105 ∷ 110 ∷ 105 ∷ 116 ∷ 121 ∷ []) ≡ false → same t (105 ∷ 110 ∷ 102 ∷ []) ≡ false → step2 text g t ≡ step3 text g (before 101 t) (from 101 t)
       unfolding step2 bytes
       number-is e f = rw (a, b, e, f)
 
@@ -80,14 +79,14 @@ other-word : (x y : ℕ) (s t : List ℕ) → x < y → same (x ∷ s) (y ∷ t)
 unfolding same
 other-word x y s t h = rw (ne-eqb x y (λ e. omega arith))
 
-pub no-word : (g : Bool) (l : List ℕ) → (length (decimals l) ≡ 0 → ⊥) → step2 g (map lower l) ≡ step3 g (before 101 (map lower l)) (from 101 (map lower l))
-no-word g [] n = unfold decimals in absurd (n refl)
-no-word g (x ∷ l) n =
+pub no-word : (text : List ℕ) (g : Bool) (l : List ℕ) → (length (decimals l) ≡ 0 → ⊥) → step2 text g (map lower l) ≡ step3 text g (before 101 (map lower l)) (from 101 (map lower l))
+no-word text g [] n = unfold decimals in absurd (n refl)
+no-word text g (x ∷ l) n =
     ⊎-elim
     (λ e.
     let b = plain-below x e in
     rw (plain-lower x e)
-    (number-is g (x ∷ map lower l) (other-word x 110 _ _ (omega arith)) (other-word x 115 _ _ (omega arith)) (other-word x 105 _ _ (omega arith)) (other-word x 105 _ _ (omega arith))))
+    (number-is text g (x ∷ map lower l) (other-word x 110 _ _ (omega arith)) (other-word x 115 _ _ (omega arith)) (other-word x 105 _ _ (omega arith)) (other-word x 105 _ _ (omega arith))))
     (λ e. absurd (n (ap length (decimals-none x l e))))
     (true-or (isPlain x))
 
@@ -97,17 +96,17 @@ no-length (x ∷ l) e = absurd (omega arith)
 
 -- ---- step 1
 
-pub read-empty : (s : List ℕ) → length s ≡ 0 → readText s ≡ refused unparseable
-unfolding readText step2 step3 step4 decimalPart before from same bytes
+pub read-empty : (s : List ℕ) → length s ≡ 0 → readAt s ≡ refusedAt unparseable 0
+unfolding readAt wrongByte signLength plainBytes step2 step3 step4 decimalPart before from same bytes
 read-empty [] e = refl
 read-empty (x ∷ s) e = absurd (omega arith)
 
-signed : (s : List ℕ) → 0 < length s → readText s ≡ step2 (eqb (getD s 0 0) 45) (map lower (drop (startOf (getD s 0 0)) s))
-unfolding readText
+signed : (s : List ℕ) → 0 < length s → readAt s ≡ step2 s (eqb (getD s 0 0) 45) (map lower (drop (startOf (getD s 0 0)) s))
+unfolding readAt
 signed [] h = absurd (omega arith)
 signed (b ∷ s) h = go (eqb b 45) (eqb b 43)
   where
-    go : (t u : Bool) → cond t (step2 true (map lower s)) (cond u (step2 false (map lower s)) (step2 false (map lower (b ∷ s)))) ≡ step2 t (map lower (drop (cond (t || u) 1 0) (b ∷ s)))
+    go : (t u : Bool) → cond t (step2 (b ∷ s) true (map lower s)) (cond u (step2 (b ∷ s) false (map lower s)) (step2 (b ∷ s) false (map lower (b ∷ s)))) ≡ step2 (b ∷ s) t (map lower (drop (cond (t || u) 1 0) (b ∷ s)))
     go true u = refl
     go false true = refl
     go false false = refl
@@ -116,5 +115,5 @@ module _ (s : List ℕ) (h : 0 < length s) (r : ℕ) (e : r ≡ startOf (getD s 
   pub start-within : r ≤ length s
   start-within = rw e (⊎-elim (λ q. rw q h) (λ q. rw q (omega arith)) (true-or (eqb (getD s 0 0) 45 || eqb (getD s 0 0) 43)))
 
-  pub read-start : readText s ≡ step2 (eqb (getD s 0 0) 45) (map lower (drop r s))
+  pub read-start : readAt s ≡ step2 s (eqb (getD s 0 0) 45) (map lower (drop r s))
   read-start = signed s h ∙ rw e

@@ -8,4 +8,5 @@ pub mod Steps
 pub mod Points
 pub mod Cut
 pub mod Lower
+pub mod Where
 pub mod Shifts

@@ -1,7 +1,7 @@
 -- From the pass over the decimal part to the steps: the split at the first `e`, the decimal part, the first point.
 use mathlib.Core.Path.{_≡_, refl, sym, ap, _∙_}
 use mathlib.Core.Logic.{_⊎_, ⊎-elim}
-use mathlib.Core.Bool.{Bool, true, false}
+use mathlib.Core.Bool.{Bool, true, false, cond}
 use mathlib.Core.List.{List, [], _∷_, _++_, map}
 use Prim.Native.Nat.{ℕ, suc, _+_, _-_, _≤_, _<_}
 use native.Mathlib.Omega.{arith}
@@ -9,9 +9,7 @@ use lib.Dec.{eqb}
 use lib.ListN.{length, take, drop, length-drop, length-map}
 use lib.Seq.{slice}
 use borrow.Author.Tests.{eq-eqb, ne-eqb}
-use Rattle.meaning.specs.Reading.{Reading, isDigit, lower, before, from, fraction, decimalPart, step3, step4, Written}
-use Rattle.meaning.specs.Reading.Reading.{refused}
-use Rattle.meaning.specs.Reading.Written.{wrong}
+use Rattle.meaning.specs.Reading.{refusedAt, isDigit, lower, before, from, fraction, decimalPart, theE, wrongByte, step3, step4}
 use Rattle.meaning.proofs.Numbers.{both, eq-or, neither-of}
 use Rattle.reading.specs.Scan.{isPlain, allPlain, decimals, firstAt, points}
 use Rattle.reading.specs.Split.{wrongFor}
@@ -26,7 +24,7 @@ module _ (x : ℕ) (l : List ℕ) (e : isPlain x ≡ true) where
   no-letter : x ≡ 101 → ⊥
   no-letter q = omega (arith, plain-below x e)
 
-  before-plain : before 101 (map lower (x ∷ l)) ≡ x ∷ before 101 (map lower l)
+  pub before-plain : before 101 (map lower (x ∷ l)) ≡ x ∷ before 101 (map lower l)
   unfolding before
   before-plain = rw (plain-lower x e, ne-eqb x 101 no-letter)
 
@@ -114,11 +112,11 @@ decimal-right (x ∷ l) p e =
 
 -- ---- step 3
 
-pub step3-wrong : (g : Bool) (dec t : List ℕ) → decimalPart false dec ≡ false → step3 g dec t ≡ refused (wrongFor t)
+pub step3-wrong : (text : List ℕ) (g : Bool) (dec t : List ℕ) → decimalPart false dec ≡ false → step3 text g dec t ≡ refusedAt (wrongFor t) (cond (eqb (length t) 1) (theE text) (wrongByte text))
 unfolding step3 step4
-step3-wrong g dec [] e = rw e
-step3-wrong g dec (x ∷ []) e = refl
-step3-wrong g dec (x ∷ y ∷ t) e = simp (e, ne-eqb (suc (suc (length t))) 1 (λ z. omega arith))
+step3-wrong text g dec [] e = rw e
+step3-wrong text g dec (x ∷ []) e = refl
+step3-wrong text g dec (x ∷ y ∷ t) e = simp (e, ne-eqb (suc (suc (length t))) 1 (λ z. omega arith))
 
 -- ---- what stands before the first `e` is no decimal part: it begins with a wrong byte, or has one after a
 

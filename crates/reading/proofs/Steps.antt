@@ -11,8 +11,7 @@ use lib.Dec.{eqb}
 use lib.ListN.{length, take, drop, replicate, length-replicate}
 use lib.Seq.{take-length, drop-length}
 use borrow.Author.Tests.{le-leb, lt-leb}
-use Rattle.meaning.specs.Reading.{Reading, low, high, number, allDigits, allZeros, holds, stripZeros, kept, lost, step7, step8, step9, step10, step11}
-use Rattle.meaning.specs.Reading.Reading.{refused, accepted}
+use Rattle.meaning.specs.Reading.{Located, refusedAt, acceptedAs, low, high, number, allDigits, allZeros, holds, stripZeros, kept, lost, afterE, secondPoint, firstCut, step7, step8, step9, step10, step11}
 use Rattle.meaning.specs.Decimal.Decimal.{finite}
 use Rattle.meaning.specs.Refusals.Refusal.{invalidCoefficient, overflow, inexactRounding}
 use Rattle.meaning.proofs.Numbers.{le-or, no-point, digits-append, digits-zeros, zeros-zeros, zeros-number, number-split, strip-number, strip-digits, number-lt, pow-pos, pow-le, eq-or}
@@ -34,13 +33,13 @@ holds-append b (x ∷ s) t e =
     (λ q. holds-later b x (s ++ t) q ∙ holds-append b s t (sym (holds-later b x s q) ∙ e))
     (eq-or x b)
 
-pub step11-point : (g : Bool) (x : ℕ) (s t : List ℕ) → holds 46 s ≡ true → step11 g x (s ++ t) ≡ refused invalidCoefficient
+pub step11-point : (text : List ℕ) (g : Bool) (x : ℕ) (s t : List ℕ) → holds 46 s ≡ true → step11 text g x (s ++ t) ≡ refusedAt invalidCoefficient (secondPoint text)
 unfolding step11
-step11-point g x s t e = rw (holds-append 46 s t e)
+step11-point text g x s t e = rw (holds-append 46 s t e)
 
-pub step11-digits : (g : Bool) (f a : ℕ) (s : List ℕ) → allDigits s ≡ true → step11 g (low + f) (s ++ replicate a 48) ≡ accepted (finite g f (number 0 s * 10 ^ a))
+pub step11-digits : (text : List ℕ) (g : Bool) (f a : ℕ) (s : List ℕ) → allDigits s ≡ true → step11 text g (low + f) (s ++ replicate a 48) ≡ acceptedAs (finite g f (number 0 s * 10 ^ a))
 unfolding step11
-step11-digits g f a s e =
+step11-digits text g f a s e =
     let n : number 0 (s ++ replicate a 48) ≡ number 0 s * 10 ^ a =
     number-split s (replicate a 48) ∙ rw (zeros-number (replicate a 48) (zeros-zeros a), length-replicate, add-zero) in
     let x : low + f - low ≡ f = omega arith in
@@ -77,32 +76,32 @@ nearest-most n = omega (arith, range)
 
 -- ---- steps 9 and 10, where x stands `below` under the range or `above` it, up to 35, and f is the field of the nearest in it
 
-module _ (g : Bool) (n : ℕ) (run : List ℕ) (few : length run ≤ 34) where
-  pub step9-below : length run < min 35 (low - n) → step9 g n run ≡ refused overflow
+module _ (text : List ℕ) (g : Bool) (n : ℕ) (run : List ℕ) (few : length run ≤ 34) where
+  pub step9-below : length run < min 35 (low - n) → step9 text g n run ≡ refusedAt overflow (afterE text)
   unfolding step9
   step9-below h = rw (lt-leb low n (omega arith), lt-leb (low - n) (length run) (omega arith))
 
-  pub step9-above : 34 < length run + min 35 (n - high) → step9 g n run ≡ refused overflow
+  pub step9-above : 34 < length run + min 35 (n - high) → step9 text g n run ≡ refusedAt overflow (afterE text)
   unfolding step9 step10
   step9-above h =
       let r = range in
       rw (le-leb low n (omega arith), lt-leb n high (omega arith), lt-leb (length run + (n - high)) 34 (omega arith))
 
   -- what is cut, and what is kept and padded
-  abbrev left : ℕ → ℕ → ℕ → Reading
-  left b a f = cond (allZeros (lost b run)) (step11 g (low + f) (kept b run ++ replicate a 48)) (refused inexactRounding)
+  abbrev left : ℕ → ℕ → ℕ → Located
+  left b a f = cond (allZeros (lost b run)) (step11 text g (low + f) (kept b run ++ replicate a 48)) (refusedAt inexactRounding (firstCut (length run - b) text))
 
-  nothing-lost : (a f : ℕ) → left 0 a f ≡ step11 g (low + f) (run ++ replicate a 48)
+  nothing-lost : (a f : ℕ) → left 0 a f ≡ step11 text g (low + f) (run ++ replicate a 48)
   unfolding allZeros
   nothing-lost a f = rw (sub-zero, drop-length, take-length)
 
-  within : low ≤ n → n ≤ high → step9 g n run ≡ left 0 0 (n - low)
+  within : low ≤ n → n ≤ high → step9 text g n run ≡ left 0 0 (n - low)
   unfolding step9 step10
   within h k =
       let e : low + (n - low) ≡ n = omega arith in
       rw (le-leb low n h, le-leb n high k) (sym (nothing-lost 0 (n - low) ∙ rw (e, append-nil)))
 
-  over : high < n → length run + (n - high) ≤ 34 → step9 g n run ≡ left 0 (n - high) (high - low)
+  over : high < n → length run + (n - high) ≤ 34 → step9 text g n run ≡ left 0 (n - high) (high - low)
   unfolding step9 step10
   over h k =
       let r = range in
@@ -110,14 +109,14 @@ module _ (g : Bool) (n : ℕ) (run : List ℕ) (few : length run ≤ 34) where
       rw (le-leb low n (omega arith), lt-leb n high h, le-leb (length run + (n - high)) 34 k)
       (sym (nothing-lost (n - high) (high - low) ∙ rw e))
 
-  under : n < low → low - n ≤ length run → step9 g n run ≡ left (low - n) 0 0
+  under : n < low → low - n ≤ length run → step9 text g n run ≡ left (low - n) 0 0
   unfolding step9 step10
   under h k =
       let r = range in
       rw (lt-leb low n h, le-leb (low - n) (length run) k, le-leb low high (omega arith), append-nil, add-zero)
 
   module _ (b a f : ℕ) (eb : b ≡ min 35 (low - n)) (ea : a ≡ min 35 (n - high)) (ef : f ≡ min (max n low) high - low) (hb : b ≤ length run) (ha : length run + a ≤ 34) where
-    pub step9-left : step9 g n run ≡ left b a f
+    pub step9-left : step9 text g n run ≡ left b a f
     step9-left =
         ⊎-elim
         (λ h.
@@ -146,9 +145,9 @@ module _ (g : Bool) (n : ℕ) (run : List ℕ) (few : length run ≤ 34) where
 
 -- ---- step 8
 
-pub step8-left : (g : Bool) (n c k : ℕ) (run : List ℕ) → c ≡ length run → k ≡ min c 34 → step8 g n run ≡ cond (allZeros (drop k run)) (step9 g (n + (c - k)) (take k run)) (refused inexactRounding)
+pub step8-left : (text : List ℕ) (g : Bool) (n c k : ℕ) (run : List ℕ) → c ≡ length run → k ≡ min c 34 → step8 text g n run ≡ cond (allZeros (drop k run)) (step9 text g (n + (c - k)) (take k run)) (refusedAt inexactRounding (firstCut k text))
 unfolding step8 allZeros
-step8-left g n c k run ec ek =
+step8-left text g n c k run ec ek =
     ⊎-elim
     (λ h.
     let e : k ≡ length run = omega arith in
@@ -167,13 +166,13 @@ strip-length [] = omega arith
 strip-length (x ∷ s) =
     ⊎-elim (λ q. rw q (omega (arith, strip-length s))) (λ q. rw q (omega arith)) (true-or (eqb x 48))
 
-module _ (g : Bool) (n : ℕ) (h : low ≤ n) (k : n ≤ high) where
-  as-it-is : (run : List ℕ) → allDigits run ≡ true → length run ≤ 34 → step7 g n run ≡ accepted (finite g (n - low) (number 0 run))
+module _ (text : List ℕ) (g : Bool) (n : ℕ) (h : low ≤ n) (k : n ≤ high) where
+  as-it-is : (run : List ℕ) → allDigits run ≡ true → length run ≤ 34 → step7 text g n run ≡ acceptedAs (finite g (n - low) (number 0 run))
   unfolding step7 step8 step9 step10 step11 number
   as-it-is [] d l = let e : min (max n low) high ≡ n = omega arith in rw e
   as-it-is (b ∷ s) d l = rw (le-leb (suc (length s)) 34 l, le-leb low n h, le-leb n high k, no-point (b ∷ s) d)
 
-  pub steps-short : (run : List ℕ) → allDigits run ≡ true → length run ≤ 34 → step7 g n (stripZeros run) ≡ accepted (finite g (n - low) (number 0 run))
+  pub steps-short : (run : List ℕ) → allDigits run ≡ true → length run ≤ 34 → step7 text g n (stripZeros run) ≡ acceptedAs (finite g (n - low) (number 0 run))
   steps-short run d l =
       as-it-is (stripZeros run) (strip-digits run d) (omega (arith, strip-length run)) ∙ rw strip-number
 

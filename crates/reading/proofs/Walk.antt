@@ -50,11 +50,11 @@ run-parts p i m t s h k l =
 
 -- ---- its length
 
-counted-apart : (p i t : ℕ) → (p < i) ⊎ (t ≤ p) → counted p i t ≡ t - i
+pub counted-apart : (p i t : ℕ) → (p < i) ⊎ (t ≤ p) → counted p i t ≡ t - i
 counted-apart p i t (inl h) = omega arith
 counted-apart p i t (inr h) = omega arith
 
-counted-across : (p i t : ℕ) → i ≤ p → p < t → counted p i t ≡ t - i - 1
+pub counted-across : (p i t : ℕ) → i ≤ p → p < t → counted p i t ≡ t - i - 1
 counted-across p i t h k = omega arith
 
 counted-skip : (p i n : ℕ) → i ≡ p → counted p (i + 1) (i + 1 + n) ≡ counted p i (i + suc n)
@@ -141,6 +141,7 @@ module _ (p i t k : ℕ) (s : List ℕ) (z : ZerosAt p i t s k) (h : k < t) (l :
         within = z .within;
         strip = z .strip ∙ ap stripZeros q ∙ rw (ne-eqb _ _ e) (sym q);
         zeros = z .zeros ∙ ap allZeros q ∙ rw (ne-eqb _ _ e, ne-eqb k t (λ w. omega arith));
+        apart = λ _. n;
       }
 
 pub zeros-all : (p i t k : ℕ) (s : List ℕ) → ZerosAt p i t s k → t ≤ k → ZerosTo p i t s k
@@ -153,6 +154,7 @@ zeros-all p i t k s z h =
       within = z .within;
       strip = z .strip ∙ rw q;
       zeros = z .zeros ∙ rw (q, eq-eqb k t e);
+      apart = λ w. absurd (omega arith);
     }
 
 module _ (p i t r : ℕ) (s : List ℕ) (z : ZerosTo p i t s r) where

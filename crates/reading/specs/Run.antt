@@ -36,6 +36,7 @@ pub record ZerosTo (p i t : ℕ) (s : List ℕ) (r : ℕ) : Type 0 where
   pub within : r ≤ t
   pub strip : stripZeros (run p i t s) ≡ run p r t s
   pub zeros : allZeros (run p i t s) ≡ eqb r t
+  pub apart : r < t → r ≡ p → ⊥
 
 -- the run from i up to the stop can be walked: digits and points, and `second` is where its first point stands, if it has one
 pub record Walked (s : List ℕ) (i : ℕ) (d : Spans) : Type 0 where

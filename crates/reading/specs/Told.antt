@@ -6,7 +6,7 @@ use lib.Dec.{eqb}
 use Rattle.meaning.specs.Refusals.{Refusal}
 use Rattle.meaning.specs.Refusals.Refusal.{emptyExponent, invalidExponent, invalidCoefficient, overflow, underflow, inexactRounding, unparseable, malformedBytes, noRoom, lineTooLong}
 use Rattle.meaning.specs.Decimal.{InRange}
-use Rattle.meaning.specs.Reading.{Reading}
+use Rattle.meaning.specs.Reading.{Located}
 use Rattle.meaning.specs.Reading.Reading.{refused, accepted}
 use Rattle.layout.specs.Unpacked.{meant}
 use Rattle.reading.specs.declared.answer.Answer.{Answer}
@@ -24,10 +24,14 @@ named n =
     (cond (eqb n 8) malformedBytes
     (cond (eqb n 9) noRoom lineTooLong))))))))
 
-unfoldable pub told : Answer → Reading
-told r = cond (eqb (r .number) 0) (accepted (meant (r .value))) (refused (named (r .number)))
+unfoldable pub told : Answer → Located
+told r =
+    record {
+      reading = cond (eqb (r .number) 0) (accepted (meant (r .value))) (refused (named (r .number)));
+      place = r .place;
+    }
 
--- an answer tells what is read, and carries a value that can be packed
-pub record Gives (a : Reading) (r : Answer) : Type 0 where
+-- an answer tells what is read and the place, and carries a value that can be packed
+pub record Gives (a : Located) (r : Answer) : Type 0 where
   pub tells : told r ≡ a
   pub ranged : InRange (meant (r .value))

@@ -18,19 +18,21 @@ pub const INEXACT_ROUNDING: u32 = 6;
 
 pub const UNPARSEABLE: u32 = 7;
 
-// The number of a refusal, or 0 and the value. A refusal carries a zero.
+// The number of a refusal and its place, an offset in the text, or 0 twice and the value. A refusal carries a zero.
 pub struct Answer {
     pub number: u32,
+    pub place: usize,
     pub value: Unpacked,
 }
 
 // A refusal.
-pub fn refused(number: u32) -> Answer
+pub fn refused(number: u32, place: usize) -> Answer
     requires { ⌜ 0 < number ⌝ }
-    ensures { λ r. ⌜ Gives (meaning.Reading.refused (named number)) r ⌝ }
+    ensures { λ r. ⌜ Gives (meaning.refusedAt (named number) place) r ⌝ }
 {
     Answer {
         number: number,
+        place: place,
         value: Unpacked {
             negative: false,
             kind: Kind::Finite,
@@ -42,10 +44,11 @@ pub fn refused(number: u32) -> Answer
 
 // Not a number.
 pub fn nan(negative: bool, signalling: bool) -> Answer
-    ensures { λ r. ⌜ Gives (meaning.Reading.accepted (decimal.Decimal.nan negative signalling)) r ⌝ }
+    ensures { λ r. ⌜ Gives (meaning.acceptedAs (decimal.Decimal.nan negative signalling)) r ⌝ }
 {
     Answer {
         number: 0,
+        place: 0,
         value: Unpacked {
             negative: negative,
             kind: Kind::Nan {
@@ -59,10 +62,11 @@ pub fn nan(negative: bool, signalling: bool) -> Answer
 
 // Infinity, with its sign.
 pub fn infinity(negative: bool) -> Answer
-    ensures { λ r. ⌜ Gives (meaning.Reading.accepted (decimal.Decimal.infinity negative)) r ⌝ }
+    ensures { λ r. ⌜ Gives (meaning.acceptedAs (decimal.Decimal.infinity negative)) r ⌝ }
 {
     Answer {
         number: 0,
+        place: 0,
         value: Unpacked {
             negative: negative,
             kind: Kind::Infinity,
@@ -74,10 +78,11 @@ pub fn infinity(negative: bool) -> Answer
 
 // A number, where its field and coefficient are those of the format.
 pub fn finite(negative: bool, field: u32, c: [u32; 4]) -> Answer
-    ensures { λ r. ⌜ (field ≤ 12287 → value c < 10 ^ 34 → Gives (meaning.Reading.accepted (decimal.Decimal.finite negative field (value c))) r) ⌝ }
+    ensures { λ r. ⌜ (field ≤ 12287 → value c < 10 ^ 34 → Gives (meaning.acceptedAs (decimal.Decimal.finite negative field (value c))) r) ⌝ }
 {
     Answer {
         number: 0,
+        place: 0,
         value: Unpacked {
             negative: negative,
             kind: Kind::Finite,

@@ -1,10 +1,8 @@
 // Text to value: document 01, 'Reading text', steps 1 to 11.
 ghost use mathlib.Core.Path.{_≡_};
-ghost use mathlib.Core.List.{map};
 ghost use Prim.Native.Nat.{_+_, _-_, _≤_};
-ghost use lib.ListN.{length, drop};
-ghost use Rattle.meaning.specs.Reading.{lower, readText};
-ghost use Rattle.reading.specs.Run.{run};
+ghost use lib.ListN.{length};
+ghost use Rattle.meaning.specs.Reading.{signLength, readAt};
 ghost use Rattle.reading.specs.Scan.{Scanned};
 ghost use Rattle.reading.specs.Split.{startOf, Shifted};
 ghost use Rattle.reading.specs.Told.{Gives};
@@ -16,6 +14,7 @@ use limbs::wide;
 use limbs::wide::Shift;
 
 pub mod answer;
+mod places;
 mod round;
 mod run;
 mod scan;
@@ -33,8 +32,8 @@ fn fraction(point: usize, stop: usize) -> u64
 
 // Steps 3 to 6: x = E-F, or the number of a refusal.
 fn shift(s: &[u8], start: usize, d: Spans) -> Shift
-    requires { ⌜ Scanned (now s) start d × (start ≤ length (now s)) ⌝ }
-    ensures { λ r. ⌜ Shifted (map lower (drop start (now (s .entry)))) (run (d .found .point) start (d .stop) (now (s .entry))) r ⌝ }
+    requires { ⌜ Scanned (now s) start d × (start ≤ length (now s)) × (signLength (now s) ≡ start) ⌝ }
+    ensures { λ r. ⌜ Shifted (now (s .entry)) start d r ⌝ }
 {
     let stop = d.stop;
     let f = fraction(d.found.point, stop);
@@ -69,12 +68,12 @@ fn start_of(first: u8) -> usize
     0
 }
 
-// What a text reads as: steps 1 to 11. A value that is accepted can be packed.
+// What a text reads as, and where it is refused: steps 1 to 11. A value that is accepted can be packed.
 pub fn read(s: &[u8]) -> Answer
-    ensures { λ r. ⌜ Gives (readText (now (s .entry))) r ⌝ }
+    ensures { λ r. ⌜ Gives (readAt (now (s .entry))) r ⌝ }
 {
     if s.len() == 0 {
-        return answer::refused(UNPARSEABLE);
+        return answer::refused(UNPARSEABLE, 0);
     }
     let first = s[0];
     let negative = first == b'-';
@@ -85,7 +84,7 @@ pub fn read(s: &[u8]) -> Answer
     }
     let x = shift(s, start, d);
     if x.number != 0 {
-        return answer::refused(x.number);
+        return answer::refused(x.number, places::early(s, d.stop, x.number));
     }
     round::finite(s, start, d, negative, x)
 }

@@ -8,6 +8,7 @@ ghost use Rattle.meaning.specs.Reading.{low, number, stripZeros, step7, step9, 
 ghost use Rattle.limbs.specs.Value.{value};
 ghost use Rattle.limbs.specs.Wide.{Stands, Raised};
 ghost use Rattle.reading.specs.Run.{run, Walked, Short};
+ghost use Rattle.reading.specs.Parted.{Parted, Placed};
 ghost use Rattle.reading.specs.Scan.{Scanned};
 ghost use Rattle.reading.specs.Told.{Gives};
 use crate::answer;
@@ -15,6 +16,7 @@ use crate::answer::Answer;
 use crate::answer::INEXACT_ROUNDING;
 use crate::answer::INVALID_COEFFICIENT;
 use crate::answer::OVERFLOW;
+use crate::places;
 use crate::run;
 use crate::scan;
 use crate::scan::Spans;
@@ -33,12 +35,12 @@ fn kept(
     field: u32,
     pad: usize,
 ) -> Answer
-    requires { ⌜ Walked (now s) first d × (first ≤ to) × (to ≤ d .stop) ⌝ }
+    requires { ⌜ Walked (now s) first d × (first ≤ to) × (to ≤ d .stop) × Placed (now s) first d ⌝ }
     requires { ⌜ length (run (d .found .point) first to (now s)) + pad ≤ 34 ⌝ }
-    ensures { λ r. ⌜ (field ≤ 12287 → Gives (step11 negative (low + field) (run (d .found .point) first to (now (s .entry)) ++ replicate pad 48)) r) ⌝ }
+    ensures { λ r. ⌜ (field ≤ 12287 → Gives (step11 (now (s .entry)) negative (low + field) (run (d .found .point) first to (now (s .entry)) ++ replicate pad 48)) r) ⌝ }
 {
     if d.found.second < to {
-        return answer::refused(INVALID_COEFFICIENT);
+        return answer::refused(INVALID_COEFFICIENT, d.found.second);
     }
     let c = run::push_digits([0, 0, 0, 0], s, first, to, d.found.point);
     answer::finite(negative, field, powers::padded(c, pad))
@@ -46,31 +48,32 @@ fn kept(
 
 // Steps 9 to 11, of the first `count` bytes of the run, at most 34.
 fn placed(s: &[u8], d: Spans, first: usize, count: usize, negative: bool, x: Shift) -> Answer
-    requires { ⌜ Walked (now s) first d × (count ≤ 34) × (count ≤ length (run (d .found .point) first (d .stop) (now s))) ⌝ }
-    ensures { λ r. ⌜ ((n : ℕ) → Raised n x → Gives (step9 negative n (take count (run (d .found .point) first (d .stop) (now (s .entry))))) r) ⌝ }
+    requires { ⌜ Walked (now s) first d × (count ≤ 34) × (count ≤ length (run (d .found .point) first (d .stop) (now s))) × Placed (now s) first d ⌝ }
+    ensures { λ r. ⌜ ((n : ℕ) → Raised n x → Gives (step9 (now (s .entry)) negative n (take count (run (d .found .point) first (d .stop) (now (s .entry))))) r) ⌝ }
 {
     let p = wide::place(x);
     let below = p.below as usize;
     let above = p.above as usize;
     if count < below {
-        return answer::refused(OVERFLOW); // too small
+        return answer::refused(OVERFLOW, places::after_e(s, d.stop)); // too small
     }
     if 34 < count + above {
-        return answer::refused(OVERFLOW); // too large
+        return answer::refused(OVERFLOW, places::after_e(s, d.stop)); // too large
     }
     let point = d.found.point;
     let cut = run::after(first, count - below, point);
     let end = run::after(first, count, point);
-    if run::first_other(s, cut, end, point) < end {
-        return answer::refused(INEXACT_ROUNDING);
+    let other = run::first_other(s, cut, end, point);
+    if other < end {
+        return answer::refused(INEXACT_ROUNDING, other);
     }
     kept(s, d, first, cut, negative, p.field, above)
 }
 
 // Steps 7 to 11, of any run: zeros are passed over, and what is cut must be zeros.
 fn rounded(s: &[u8], start: usize, d: Spans, negative: bool, x: Shift) -> Answer
-    requires { ⌜ Walked (now s) start d ⌝ }
-    ensures { λ r. ⌜ ((n : ℕ) → Stands n x → Gives (step7 negative n (stripZeros (run (d .found .point) start (d .stop) (now (s .entry))))) r) ⌝ }
+    requires { ⌜ Scanned (now s) start d × (start ≤ length (now s)) × Parted (now s) start ⌝ }
+    ensures { λ r. ⌜ ((n : ℕ) → Stands n x → Gives (step7 (now (s .entry)) negative n (stripZeros (run (d .found .point) start (d .stop) (now (s .entry))))) r) ⌝ }
 {
     let stop = d.stop;
     let point = d.found.point;
@@ -82,8 +85,9 @@ fn rounded(s: &[u8], start: usize, d: Spans, negative: bool, x: Shift) -> Answer
     }
     let keep = scan::least(count, 34);
     let end = run::after(first, keep, point);
-    if run::first_other(s, end, stop, point) < stop {
-        return answer::refused(INEXACT_ROUNDING);
+    let other = run::first_other(s, end, stop, point);
+    if other < stop {
+        return answer::refused(INEXACT_ROUNDING, other);
     }
     placed(
         s,
@@ -130,8 +134,8 @@ fn whole(s: &[u8], start: usize, d: Spans) -> [u32; 4]
 
 // Steps 7 to 11: what is short is its digits and the field of x.
 pub fn finite(s: &[u8], start: usize, d: Spans, negative: bool, x: Shift) -> Answer
-    requires { ⌜ Scanned (now s) start d × (start ≤ length (now s)) ⌝ }
-    ensures { λ r. ⌜ ((n : ℕ) → Stands n x → Gives (step7 negative n (stripZeros (run (d .found .point) start (d .stop) (now (s .entry))))) r) ⌝ }
+    requires { ⌜ Scanned (now s) start d × (start ≤ length (now s)) × Parted (now s) start ⌝ }
+    ensures { λ r. ⌜ ((n : ℕ) → Stands n x → Gives (step7 (now (s .entry)) negative n (stripZeros (run (d .found .point) start (d .stop) (now (s .entry))))) r) ⌝ }
 {
     let p = wide::place(x);
     if is_short(p, d.stop - start, d.found.points) {

@@ -4,7 +4,7 @@ ghost use mathlib.Core.List.{[], map};
 ghost use Prim.Native.Nat.{_<_, _≤_};
 ghost use lib.ListN.{length, drop};
 ghost use Rattle.meaning.specs.Refusals.{numberOf};
-ghost use Rattle.meaning.specs.Reading.{lower, same, from, step2};
+ghost use Rattle.meaning.specs.Reading.{lower, same, from, signLength, step2};
 ghost use Rattle.reading.specs.Scan.{decimals, firstAt};
 ghost use Rattle.reading.specs.Split.{wrongFor};
 ghost use Rattle.reading.specs.Told.{Gives};
@@ -12,6 +12,7 @@ use crate::answer;
 use crate::answer::Answer;
 use crate::answer::EMPTY_EXPONENT;
 use crate::answer::UNPARSEABLE;
+use crate::places;
 
 // A to Z as a to z.
 pub fn lower_case(b: u8) -> u8
@@ -73,8 +74,8 @@ pub fn wrong(s: &[u8], at: usize) -> u32
 
 // Step 2, of a text that starts with neither digit nor point.
 pub fn word(s: &[u8], start: usize, negative: bool) -> Answer
-    requires { ⌜ (start ≤ length (now s)) × (decimals (drop start (now s)) ≡ []) ⌝ }
-    ensures { λ r. ⌜ Gives (step2 negative (map lower (drop start (now (s .entry))))) r ⌝ }
+    requires { ⌜ (start ≤ length (now s)) × (decimals (drop start (now s)) ≡ []) × (signLength (now s) ≡ start) × (0 < length (now s)) ⌝ }
+    ensures { λ r. ⌜ Gives (step2 (now (s .entry)) negative (map lower (drop start (now (s .entry))))) r ⌝ }
 {
     if is_word(s, start, b"nan") {
         return answer::nan(negative, false);
@@ -88,5 +89,6 @@ pub fn word(s: &[u8], start: usize, negative: bool) -> Answer
     if is_word(s, start, b"inf") {
         return answer::infinity(negative);
     }
-    answer::refused(wrong(s, start))
+    let number = wrong(s, start);
+    answer::refused(number, places::early(s, start, number))
 }

@@ -11,7 +11,7 @@ ghost use Rattle.meaning.specs.Reading.{bytes};
 ghost use Rattle.writing.specs.Pieces.{Sized};
 ghost use Rattle.writing.specs.Put.{putOf, placed, Puts};
 
-mod digits;
+pub mod digits;
 mod exponent;
 pub mod hex;
 pub mod pieces;

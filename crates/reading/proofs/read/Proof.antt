@@ -1,4 +1,4 @@
-use mathlib.Core.Path.{_≡_, _∙_}
+use mathlib.Core.Path.{_≡_, sym, _∙_}
 use mathlib.Core.Logic.{⊎-elim}
 use mathlib.Core.List.{List, map}
 use Prim.Native.Nat.{ℕ, _≤_, _<_}
@@ -6,10 +6,12 @@ use native.Mathlib.Omega.{arith}
 use lib.Dec.{eqb}
 use lib.ListN.{length, getD, drop}
 use borrow.Author.Needs.{needs}
-use Rattle.meaning.specs.Reading.{lower, before, from, readText, step2, step3}
+use Rattle.meaning.specs.Reading.{lower, before, from, signLength, readAt, step2, step3}
 use Rattle.reading.specs.Told.{named}
 use Rattle.reading.specs.Scan.{decimals}
 use Rattle.reading.proofs.Letters.{no-length, no-word, read-empty, read-start, start-within}
+use Rattle.reading.proofs.Points.{stop-within}
+use Rattle.reading.proofs.Where.{sign-is}
 use Rattle.reading.proofs.read.Statement.{statement}
 use Rattle.reading.proofs.read.Tie as tie
 
@@ -25,19 +27,22 @@ some c = omega (arith, c .before .before .if1 .left)
 within : (c : tie.After-start-of) → c .start-of .result ≤ length (text c)
 within c = start-within (text c) (some c) _ (c .start-of .ensures)
 
+signed : (c : tie.After-start-of) → signLength (text c) ≡ c .start-of .result
+signed c = sign-is (text c) (some c) ∙ sym (c .start-of .ensures)
+
 -- what is left to do after step 1
-step1 : (c : tie.After-start-of) → readText (text c) ≡ step2 (eqb (getD (text c) 0 0) 45) (letters c)
+step1 : (c : tie.After-start-of) → readAt (text c) ≡ step2 (text c) (eqb (getD (text c) 0 0) 45) (letters c)
 step1 c = read-start (text c) (some c) _ (c .start-of .ensures)
 
 -- and after step 2, where a digit or a point stands first
 abbrev started : tie.Else2 → tie.After-start-of
 started c = c .before .before .before
 
-steps : (c : tie.Else2) → readText (text (started c)) ≡ step3 (eqb (getD (text (started c)) 0 0) 45) (before 101 (letters (started c))) (from 101 (letters (started c)))
+steps : (c : tie.Else2) → readAt (text (started c)) ≡ step3 (text (started c)) (eqb (getD (text (started c)) 0 0) 45) (before 101 (letters (started c))) (from 101 (letters (started c)))
 steps c =
     let n : length (decimals (drop (started c .start-of .result) (text (started c)))) ≡ 0 → ⊥ =
     λ z. c .if2 .left (c .before .before .scan .ensures .stop ∙ omega arith) in
-    step1 (started c) ∙ no-word _ _ n
+    step1 (started c) ∙ no-word _ _ _ n
 
 returns : tie.Need-returns
 unfolding named
@@ -49,25 +54,34 @@ scan-requires c κs = within c
 word-requires : tie.Need-word-requires
 word-requires c κs =
     let d = c .before .before in
-    (within (d .before), no-length _ (omega (arith, d .scan .ensures .stop, c .if2 .taken)))
+    (within (d .before), no-length _ (omega (arith, d .scan .ensures .stop, c .if2 .taken)), signed (d .before), some (d .before))
 
 returns-2 : tie.Need-returns-2
 returns-2 c = rw (step1 (c .before .before .before .before)) (c .word .ensures)
 
 shift-requires : tie.Need-shift-requires
-shift-requires c κs = let d = c .before .before in (d .scan .ensures, within (d .before))
+shift-requires c κs = let d = c .before .before in (d .scan .ensures, within (d .before), signed (d .before))
+
+early-requires : tie.Need-early-requires
+early-requires c κs =
+    let d = c .before .before .before .before .before in
+    (stop-within _ _ _ (d .scan .ensures) (within (d .before)), some (d .before))
 
 returns-3 : tie.Need-returns-3
 returns-3 c =
-    let e = c .before .before .before in
+    let e = c .before .before .before .before in
     ⊎-elim
-    (λ r. rw (steps (e .before), r .gives _) (c .refused2 .ensures))
-    (λ l. absurd (c .before .if3 .taken (l .none)))
+    (λ r. rw (steps (e .before), r .gives _, ← c .before .early .ensures) (c .refused2 .ensures))
+    (λ l. absurd (c .before .before .if3 .taken (l .none)))
     (e .shift .ensures)
 
 finite-requires : tie.Need-finite-requires
 finite-requires c κs =
-    let d = c .before .before .before .before .before in (d .scan .ensures, within (d .before))
+    let d = c .before .before .before .before .before in
+    ⊎-elim
+    (λ r. absurd (omega (arith, r .some, c .if3 .left)))
+    (λ l. (d .scan .ensures, within (d .before), l .parted))
+    (c .before .before .shift .ensures)
 
 returns-4 : tie.Need-returns-4
 returns-4 c =
@@ -89,6 +103,7 @@ read-spec =
     word-requires
     returns-2
     shift-requires
+    early-requires
     (λ c κs. search needs)
     returns-3
     finite-requires

@@ -34,7 +34,7 @@ sub-if2 c = low (c .before .before .before)
 returns : tie.Need-returns
 returns c =
     let a = c .before .before .before .before .before .before in
-    end-wrong _ _ _ (a .pre .0) (a .pre .1) (c .before .before .before .if1 .taken) _ (c .before .if2 .taken) (c .refused .ensures)
+    end-wrong _ _ _ (a .pre .0) (a .pre .1) (a .pre .2) (c .before .before .before .if1 .taken) _ (c .before .if2 .taken) (c .refused .ensures)
 
 minus-requires : tie.Need-minus-requires
 minus-requires c κs = small (c .before .before .before)
@@ -43,7 +43,7 @@ returns-2 : tie.Need-returns-2
 returns-2 c =
     let a = c .before .before .before .before .before .before in
     let f = c .before .before .before .before in
-    end-right _ _ _ (a .pre .0) (a .pre .1) (c .before .before .before .if1 .taken) _ _ (c .before .if2 .left) (f .fraction .ensures) (small f) (c .minus .ensures .0) (c .minus .ensures .1)
+    end-right _ _ _ (a .pre .0) (a .pre .1) (a .pre .2) (c .before .before .before .if1 .taken) _ _ (c .before .if2 .left) (f .fraction .ensures) (small f) (c .minus .ensures .0) (c .minus .ensures .1)
 
 shared-slice-read-lower-case : tie.Need-shared-slice-read-lower-case
 shared-slice-read-lower-case c = more (c .before)
@@ -56,7 +56,7 @@ returns-3 c =
     let d = c .before .before in
     let b = d .before .before .before in
     let a = b .before .before .before in
-    other-wrong _ _ _ (a .pre .0) (a .pre .1) (more b) _ (λ e. d .if3 .taken (d .before .lower-case .ensures ∙ e)) (c .refused2 .ensures ∙ c .before .wrong .ensures)
+    other-wrong _ _ _ (a .pre .0) (a .pre .1) (a .pre .2) (more b) _ (λ e. d .if3 .taken (d .before .lower-case .ensures ∙ e)) (c .refused2 .ensures ∙ c .before .wrong .ensures)
 
 add-if4 : tie.Need-add-if4
 add-if4 c = omega (arith, more (c .before .before .before))
@@ -66,7 +66,7 @@ returns-4 c =
     let e = c .before .before in
     let b = e .before .before .before in
     let a = b .before .before .before in
-    split-empty _ _ _ (a .pre .0) (a .pre .1) (more b) (split e) _ (c .before .if4 .taken) (c .refused3 .ensures)
+    split-empty _ _ _ (a .pre .0) (a .pre .1) (a .pre .2) (more b) (split e) _ (c .before .if4 .taken) (c .refused3 .ensures)
 
 sub-if5 : tie.Need-sub-if5
 sub-if5 c = low (c .before .before .before .before .before .before .before)
@@ -76,7 +76,7 @@ returns-5 c =
     let f = c .before .before .before in
     let b = f .before .before .before .before in
     let a = b .before .before .before in
-    split-wrong _ _ _ (a .pre .0) (a .pre .1) (more b) (split (f .before)) (further f) _ (c .before .if5 .taken) (c .refused4 .ensures)
+    split-wrong _ _ _ (a .pre .0) (a .pre .1) (a .pre .2) (more b) (split (f .before)) (further f) _ (c .before .if5 .taken) (c .refused4 .ensures)
 
 add-exponent-less : tie.Need-add-exponent-less
 add-exponent-less c = omega (arith, further (c .before .before))
@@ -89,7 +89,7 @@ returns-6 c =
     let f = c .before .before .before in
     let b = f .before .before .before .before in
     let a = b .before .before .before in
-    split-exponent _ _ _ (a .pre .0) (a .pre .1) (more b) (split (f .before)) (further f) (c .before .if5 .left) _ _ (b .before .fraction .ensures) (c .exponent-less .ensures)
+    split-exponent _ _ _ (a .pre .0) (a .pre .1) (a .pre .2) (more b) (split (f .before)) (further f) (c .before .if5 .left) _ _ (b .before .fraction .ensures) (c .exponent-less .ensures)
 
 pub shift-spec : {M : Type 1} → statement M
 shift-spec =

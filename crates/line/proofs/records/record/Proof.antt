@@ -1,6 +1,6 @@
 use native.Mathlib.Omega.{arith}
 use borrow.Author.Needs.{needs}
-use Rattle.meaning.proofs.Records.{record-has-at-most-78}
+use Rattle.meaning.proofs.Records.{record-has-at-most-80}
 use Rattle.line.proofs.Wrote.{wrote-same, put-whole, short-text}
 use Rattle.line.proofs.records.record.Statement.{statement}
 use Rattle.line.proofs.records.record.Tie as tie
@@ -12,7 +12,7 @@ returns-2 : tie.Need-returns-2
 returns-2 c =
     let s = c .before .before .before .before .before .before .before .before .before .before in
     let l = c .before .before .before .before .before .before .before .if1 .left in
-    let n = record-has-at-most-78 (s .args .text .now) in
+    let n = record-has-at-most-80 (s .args .text .now) in
     let e = short-text (s .args .text .now) l in
     rw (c .before .before .before .before .before .enum-told .given .1) (wrote-same e (put-whole (c .before .before .before .«record» .ensures) (c .put-len .ensures) (rw e (omega (arith, s .pre)))))
 

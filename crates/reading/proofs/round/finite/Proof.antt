@@ -3,7 +3,7 @@ use native.Mathlib.Omega.{arith}
 use borrow.Author.Needs.{needs}
 use Rattle.limbs.proofs.Shifts.{stands-raised}
 use Rattle.reading.specs.Run.{Short}
-use Rattle.reading.proofs.Points.{stop-low, points-width, walked, short-digits, short-length}
+use Rattle.reading.proofs.Points.{stop-low, points-width, short-digits, short-length}
 use Rattle.reading.proofs.Cut.{stands-in, field-most}
 use Rattle.reading.proofs.Steps.{steps-short, number-most}
 use Rattle.reading.proofs.round.finite.Statement.{statement}
@@ -35,10 +35,10 @@ returns c = λ n k.
     let l = short-length _ _ _ (a .pre .0) (a .pre .1) (h .one) in
     let m = rw (← l) at (h .few) in
     let e = c .before .whole .ensures in
-    rw (steps-short (a .args .negative) n (r .0) (r .1) _ d m, ← e, ← r .2) (c .finite .ensures (field-most n _ q) (rw e (number-most _ d m)))
+    rw (steps-short _ (a .args .negative) n (r .0) (r .1) _ d m, ← e, ← r .2) (c .finite .ensures (field-most n _ q) (rw e (number-most _ d m)))
 
 rounded-requires : tie.Need-rounded-requires
-rounded-requires c κs = let a = c .before .before .before .before .before in walked _ _ _ (a .pre .0) (a .pre .1)
+rounded-requires c κs = let a = c .before .before .before .before .before in a .pre
 
 pub finite-spec : {M : Type 1} → statement M
 finite-spec =

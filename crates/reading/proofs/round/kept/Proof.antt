@@ -28,7 +28,7 @@ returns : tie.Need-returns
 unfolding named
 returns c = λ _.
     let a = c .before .before .before .before in
-    rw (step11-point _ _ _ _ (a .pre .0 .0 .second (a .args .to) (a .pre .0 .1) (a .pre .0 .2) ∙ lt-ltb _ _ (c .before .if1 .taken)))
+    rw (step11-point _ _ _ _ _ (a .pre .0 .0 .second (a .args .to) (a .pre .0 .1) (a .pre .0 .2) ∙ lt-ltb _ _ (c .before .if1 .taken)), a .pre .0 .3 .second (omega (arith, a .pre .0 .2, c .before .if1 .taken)))
     (c .refused .ensures)
 
 push-digits-requires : tie.Need-push-digits-requires
@@ -46,7 +46,7 @@ returns-2 c = λ f.
     let q = p .before in
     let a = q .before .before .before .before in
     let e = p .padded .ensures in
-    rw (step11-digits (a .args .negative) (a .args .field) (a .args .pad) _ (digits (q .before)), ← q .push-digits .ensures, ← e)
+    rw (step11-digits _ (a .args .negative) (a .args .field) (a .args .pad) _ (digits (q .before)), ← q .push-digits .ensures, ← e)
     (c .finite .ensures f (rw e (bound q)))
 
 pub kept-spec : {M : Type 1} → statement M

@@ -1,12 +1,11 @@
 use mathlib.Core.Bool.{cond}
 use mathlib.Core.List.{List, _++_}
 use mathlib.Core.Path.{_≡_, refl}
-use Prim.Native.Nat.{ℕ, _+_, _^_, _≤_, _<_}
+use Prim.Native.Nat.{ℕ, _+_, _-_, _^_, _≤_, _<_}
 use native.Mathlib.Omega.{arith}
 use lib.ListN.{length, take, replicate}
 use borrow.Author.Needs.{needs}
-use Rattle.meaning.specs.Reading.{low, allZeros, step9, step11}
-use Rattle.meaning.specs.Reading.Reading.{refused}
+use Rattle.meaning.specs.Reading.{refusedAt, low, allZeros, firstCut, step9, step11}
 use Rattle.meaning.specs.Refusals.Refusal.{inexactRounding}
 use Rattle.limbs.specs.declared.wide.Stand.{Stand}
 use Rattle.limbs.specs.Wide.{Raised}
@@ -53,23 +52,29 @@ room-left c =
     let a = start c in
     omega (arith, c .before .before .if2 .left, kept-length _ _ _ _ (a .pre .0 .ordered) (a .pre .0 .within) _ (a .pre .2) _ _ _ (c .after2 .ensures) (c .before .after .ensures))
 
-left : (c : tie.After-after2) (n : ℕ) → Raised n (start c .args .x) → step9 (start c .args .negative) n (take (start c .args .count) (run-of c)) ≡ cond (allZeros (lost-of c)) (step11 (start c .args .negative) (low + stand c .field) (kept-of c ++ replicate (stand c .above) 48)) (refused inexactRounding)
+left : (c : tie.After-after2) (n : ℕ) → Raised n (start c .args .x) → step9 (start c .args .s .now) (start c .args .negative) n (take (start c .args .count) (run-of c)) ≡ cond (allZeros (lost-of c)) (step11 (start c .args .s .now) (start c .args .negative) (low + stand c .field) (kept-of c ++ replicate (stand c .above) 48)) (refusedAt inexactRounding (firstCut (start c .args .count - stand c .below) (start c .args .s .now)))
 left c n k =
     let a = start c in
-    placed-left _ _ _ _ (a .pre .0 .ordered) (a .pre .0 .within) _ (a .pre .2) _ _ _ (c .after2 .ensures) (c .before .after .ensures) (a .args .negative) n _ (c .before .before .before .before .before .before .place .ensures n k) (a .pre .1) refl (c .before .before .before .if1 .left) (c .before .before .if2 .left)
+    placed-left _ _ _ _ (a .pre .0 .ordered) (a .pre .0 .within) _ (a .pre .2) _ _ _ (c .after2 .ensures) (c .before .after .ensures) (a .args .s .now) (a .args .negative) n _ (c .before .before .before .before .before .before .place .ensures n k) (a .pre .1) refl (c .before .before .before .if1 .left) (c .before .before .if2 .left)
+
+after-e-requires : tie.Need-after-e-requires
+after-e-requires c κs = c .before .before .before .before .before .pre .0 .within
 
 returns : tie.Need-returns
 unfolding named
 returns c = λ n k.
-    let a = c .before .before .before .before .before .before in
-    rw (placed-below _ _ _ _ (a .pre .0 .ordered) (a .pre .0 .within) _ (a .pre .2) _ n _ (c .before .before .before .before .place .ensures n k) (a .pre .1) (c .before .if1 .taken))
+    let a = c .before .before .before .before .before .before .before in
+    rw (placed-below _ _ _ _ (a .pre .0 .ordered) (a .pre .0 .within) _ (a .pre .2) (a .args .s .now) _ n _ (c .before .before .before .before .before .place .ensures n k) (a .pre .1) (c .before .before .if1 .taken), a .pre .3 .letter, ← c .before .after-e .ensures)
     (c .refused .ensures)
+
+after-e-requires-2 : tie.Need-after-e-requires-2
+after-e-requires-2 c κs = c .before .before .before .before .before .before .pre .0 .within
 
 returns-2 : tie.Need-returns-2
 unfolding named
 returns-2 c = λ n k.
-    let a = c .before .before .before .before .before .before .before in
-    rw (placed-above _ _ _ _ (a .pre .0 .ordered) (a .pre .0 .within) _ (a .pre .2) _ n _ (c .before .before .before .before .before .place .ensures n k) (a .pre .1) (c .before .if2 .taken))
+    let a = c .before .before .before .before .before .before .before .before in
+    rw (placed-above _ _ _ _ (a .pre .0 .ordered) (a .pre .0 .within) _ (a .pre .2) (a .args .s .now) _ n _ (c .before .before .before .before .before .before .place .ensures n k) (a .pre .1) (c .before .before .if2 .taken), a .pre .3 .letter, ← c .before .after-e2 .ensures)
     (c .refused2 .ensures)
 
 after-requires : tie.Need-after-requires
@@ -85,13 +90,15 @@ returns-3 : tie.Need-returns-3
 unfolding named
 returns-3 c = λ n k.
     let d = c .before .before .before in
-    rw (left d n k, zeros-not _ _ _ _ _ (c .before .before .first-other .ensures) (c .before .if3 .taken)) (c .refused3 .ensures)
+    let z = c .before .before .first-other .ensures in
+    let t = c .before .if3 .taken in
+    rw (left d n k, zeros-not _ _ _ _ _ z t, start d .pre .3 .cut _ _ _ _ (d .before .after .ensures) (outside d) z t) (c .refused3 .ensures)
 
 kept-requires : tie.Need-kept-requires
 kept-requires c κs =
     let d = c .before .before in
     let a = start d in
-    ((a .pre .0, d .before .after .ensures .after, omega (arith, inside d, outside d)), room-left d)
+    ((a .pre .0, d .before .after .ensures .after, omega (arith, inside d, outside d), a .pre .3), room-left d)
 
 returns-4 : tie.Need-returns-4
 returns-4 c = λ n k.
@@ -105,9 +112,11 @@ placed-spec =
     (λ c κs. search needs)
     (λ c. search needs)
     (λ c. search needs)
+    after-e-requires
     (λ c κs. search needs)
     returns
     (λ c. search needs)
+    after-e-requires-2
     (λ c κs. search needs)
     returns-2
     after-requires
