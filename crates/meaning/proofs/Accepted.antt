@@ -209,7 +209,7 @@ exponent-parts big (b ∷ s) e w =
 -- ---- letters in either case
 
 -- no capital letter becomes a digit, a point or a sign
-lower-low : (b : ℕ) → lower b ≤ 57 → lower b ≡ b
+pub lower-low : (b : ℕ) → lower b ≤ 57 → lower b ≡ b
 lower-low b h =
     by-test (leb 65 b && leb b 90)
     (λ t. absurd (let p : b + 32 ≤ 57 = rw t at h in omega (arith, leb-true 65 b (both (leb 65 b) (leb b 90) t .0))))

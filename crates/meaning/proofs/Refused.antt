@@ -4,24 +4,38 @@ use mathlib.Core.Logic.{inl, inr}
 use mathlib.Core.Bool.{Bool, true, false, cond, _||_, true≢false}
 use mathlib.Core.List.{List, [], _∷_, map}
 use Prim.Native.Nat.{ℕ, _+_, _-_, _≤_, _<_}
+use native.Mathlib.Nat.{le-of-lt}
 use native.Mathlib.Omega.{arith}
 use lib.Dec.{eqb, leb, lit≤}
 use lib.ListN.{length, take, drop}
 use borrow.Author.Tests.{eqb-true}
 use Rattle.meaning.specs.Refusals.{Refusal, numberOf}
-use Rattle.meaning.specs.Refusals.Refusal.{overflow}
+use Rattle.meaning.specs.Refusals.Refusal.{emptyExponent, invalidExponent, invalidCoefficient, overflow, underflow, inexactRounding, unparseable, malformedBytes, noRoom, lineTooLong}
 use Rattle.meaning.specs.Decimal.{Decimal}
 use Rattle.meaning.specs.Reading.{Reading, Located, Written, refusedAt, acceptedAs, bytes, lower, same, allZeros, holds, decimalPart, before, from, fraction, runOf, low, high, lost, theE, afterE, signLength, decimalOf, secondPoint, firstCut, step2, step3, step4, step5, step6, step7, step8, step9, step10, step11, readAt, readText}
 use Rattle.meaning.specs.Reading.Reading.{refused, accepted}
 use Rattle.meaning.specs.Reading.Written.{written, wrong}
-use Rattle.meaning.specs.Promises.{RefusesBy1To7, EveryPlaceIsWithin, NamedBytesAreThere, AcceptedCarriesZero, namesAByte}
-use Rattle.meaning.proofs.Places.{either-true, from-holds, take-holds, take-other, padded-holds, decimal-signed, decimal-unsigned, e-there, after-within, wrong-within, second-there, cut-there}
+use Rattle.meaning.specs.Promises.{Begins, Shows, RefusesBy1To7, EveryPlaceIsWithin, EveryPlaceShowsWhy, NamedBytesAreThere, AcceptedCarriesZero, namesAByte}
+use Rattle.meaning.proofs.Places.{either-true, from-holds, take-holds, take-other, padded-holds, decimal-signed, decimal-unsigned, begins-within, e-shown, after-within, wrong-within, wrong-shown, second-shown, cut-shown}
 
--- a refusal is one of 1 to 7, and its place is in the text
+-- a refusal is one of 1 to 7, and its place is in the text and shows why
 data Fair (text : List ℕ) : Located → Type 0 where
-  byte : {r : Refusal} {p : ℕ} → numberOf r ≤ 7 → p < length text → Fair text (refusedAt r p)
-  offset : {r : Refusal} {p : ℕ} → numberOf r ≤ 7 → namesAByte r ≡ false → p ≤ length text → Fair text (refusedAt r p)
-  none : {v : Decimal} → Fair text (acceptedAs v)
+  refusal : {r : Refusal} {p : ℕ} → numberOf r ≤ 7 → p ≤ length text → Shows r (drop p text) → Fair text (refusedAt r p)
+  value : {v : Decimal} → Fair text (acceptedAs v)
+
+-- a byte is shown by 1, 3 and 6
+named-there : (r : Refusal) (p : ℕ) (s : List ℕ) → Shows r (drop p s) → namesAByte r ≡ true → p < length s
+unfolding namesAByte
+named-there emptyExponent p s b e = begins-within _ p s b
+named-there invalidCoefficient p s b e = begins-within _ p s b
+named-there inexactRounding p s b e = begins-within _ p s b
+named-there invalidExponent p s b e = absurd (true≢false (sym e))
+named-there overflow p s b e = absurd (true≢false (sym e))
+named-there underflow p s b e = absurd (true≢false (sym e))
+named-there unparseable p s b e = absurd (true≢false (sym e))
+named-there malformedBytes p s b e = absurd (true≢false (sym e))
+named-there noRoom p s b e = absurd (true≢false (sym e))
+named-there lineTooLong p s b e = absurd (true≢false (sym e))
 
 -- either way of a test; what it says may be used
 both-ways : {text : List ℕ} (t : Bool) {a b : Located} → (t ≡ true → Fair text a) → (t ≡ false → Fair text b) → Fair text (cond t a b)
@@ -30,8 +44,8 @@ both-ways false p q = q refl
 
 -- a run whose second point and whose bytes to be cut are in the text
 record Lies (text run : List ℕ) : Type 0 where
-  second : holds 46 run ≡ true → secondPoint text < length text
-  cut : (n : ℕ) → allZeros (drop n run) ≡ false → firstCut n text < length text
+  second : holds 46 run ≡ true → Begins (λ (b : ℕ). b ≡ 46) (drop (secondPoint text) text)
+  cut : (n : ℕ) → allZeros (drop n run) ≡ false → Begins (λ (b : ℕ). b ≡ 48 → ⊥) (drop (firstCut n text) text)
 
 lies-take : {text run : List ℕ} (k : ℕ) → Lies text run → Lies text (take k run)
 lies-take {text} {run} k l =
@@ -41,13 +55,17 @@ lies-take {text} {run} k l =
     }
 
 module _ (text : List ℕ) (sign : Bool) where
-  fair11 : (x : ℕ) (run : List ℕ) → (holds 46 run ≡ true → secondPoint text < length text) → Fair text (step11 text sign x run)
-  unfolding step11 numberOf
-  fair11 x run l = both-ways (holds 46 run) (λ h. byte (lit≤ tt) (l h)) (λ _. none)
+  -- a refusal that names a byte
+  byte : (r : Refusal) (p : ℕ) → numberOf r ≤ 7 → namesAByte r ≡ true → Shows r (drop p text) → Fair text (refusedAt r p)
+  byte r p n e b = refusal n (le-of-lt (named-there r p text b e)) b
+
+  fair11 : (x : ℕ) (run : List ℕ) → (holds 46 run ≡ true → Begins (λ (b : ℕ). b ≡ 46) (drop (secondPoint text) text)) → Fair text (step11 text sign x run)
+  unfolding step11 numberOf namesAByte
+  fair11 x run l = both-ways (holds 46 run) (λ h. byte invalidCoefficient (secondPoint text) (lit≤ tt) refl (l h)) (λ _. value)
 
   over : Fair text (refusedAt overflow (afterE text))
-  unfolding numberOf namesAByte
-  over = offset (lit≤ tt) refl (after-within text)
+  unfolding numberOf
+  over = refusal (lit≤ tt) (after-within text) tt
 
   fair10 : (x : ℕ) (run : List ℕ) → Lies text run → Fair text (step10 text sign x run)
   unfolding step10
@@ -59,54 +77,54 @@ module _ (text : List ℕ) (sign : Bool) where
       (λ _. over))
 
   fair9 : (x : ℕ) (run : List ℕ) → Lies text run → Fair text (step9 text sign x run)
-  unfolding step9 numberOf
+  unfolding step9 numberOf namesAByte
   fair9 x run l =
       both-ways (leb low x)
       (λ _. fair10 x run l)
       (λ _. both-ways (leb (low - x) (length run))
       (λ _. both-ways (allZeros (lost (low - x) run))
       (λ _. fair10 _ _ (lies-take (length run - (low - x)) l))
-      (λ z. byte (lit≤ tt) (l .cut (length run - (low - x)) z)))
+      (λ z. byte inexactRounding _ (lit≤ tt) refl (l .cut (length run - (low - x)) z)))
       (λ _. over))
 
   fair8 : (x : ℕ) (run : List ℕ) → Lies text run → Fair text (step8 text sign x run)
-  unfolding step8 numberOf
+  unfolding step8 numberOf namesAByte
   fair8 x run l =
       both-ways (leb (length run) 34)
       (λ _. fair9 x run l)
-      (λ _. both-ways (allZeros (drop 34 run)) (λ _. fair9 _ _ (lies-take 34 l)) (λ z. byte (lit≤ tt) (l .cut 34 z)))
+      (λ _. both-ways (allZeros (drop 34 run)) (λ _. fair9 _ _ (lies-take 34 l)) (λ z. byte inexactRounding _ (lit≤ tt) refl (l .cut 34 z)))
 
   fair7 : (x : ℕ) (run : List ℕ) → Lies text run → Fair text (step7 text sign x run)
   unfolding step7
-  fair7 x [] l = none
+  fair7 x [] l = value
   fair7 x (b ∷ s) l = fair8 x (b ∷ s) l
 
   module _ (dec : List ℕ) (is : dec ≡ decimalOf text) where
     lies : Lies text (runOf dec)
-    lies = rw is (record { second = second-there text; cut = cut-there text })
+    lies = rw is (record { second = second-shown text; cut = cut-shown text })
 
     fair5 : (w : Written) → Fair text (step5 text sign dec w)
-    unfolding step5 step6 numberOf namesAByte
-    fair5 wrong = offset (lit≤ tt) refl (after-within text)
+    unfolding step5 step6 numberOf
+    fair5 wrong = refusal (lit≤ tt) (after-within text) tt
     fair5 (written e) =
-        both-ways (leb (length (fraction dec)) e) (λ _. fair7 _ _ lies) (λ _. offset (lit≤ tt) refl (after-within text))
+        both-ways (leb (length (fraction dec)) e) (λ _. fair7 _ _ lies) (λ _. refusal (lit≤ tt) (after-within text) tt)
 
     fair4 : (w : Written) → Fair text (step4 text sign dec w)
-    unfolding step4 numberOf namesAByte
-    fair4 w = both-ways (decimalPart false dec) (λ _. fair5 w) (λ _. offset (lit≤ tt) refl (wrong-within text))
+    unfolding step4 numberOf
+    fair4 w = both-ways (decimalPart false dec) (λ _. fair5 w) (λ _. refusal (lit≤ tt) (wrong-within text) (wrong-shown text))
 
-    fair3 : (tail : List ℕ) → (1 ≤ length tail → theE text < length text) → Fair text (step3 text sign dec tail)
-    unfolding step3 numberOf
+    fair3 : (tail : List ℕ) → (1 ≤ length tail → Begins (λ (b : ℕ). lower b ≡ 101) (drop (theE text) text)) → Fair text (step3 text sign dec tail)
+    unfolding step3 numberOf namesAByte
     fair3 [] h = fair4 _
-    fair3 (e ∷ []) h = byte (lit≤ tt) (h (lit≤ tt))
+    fair3 (e ∷ []) h = byte emptyExponent _ (lit≤ tt) refl (h (lit≤ tt))
     fair3 (e ∷ b ∷ s) h = fair4 _
 
   fair2 : (t : List ℕ) → before 101 t ≡ decimalOf text → (holds 101 t ≡ true → holds 101 (map lower text) ≡ true) → Fair text (step2 text sign t)
   unfolding step2
   fair2 t is h =
-      both-ways (same t (bytes "nan")) (λ _. none)
-      (λ _. both-ways (same t (bytes "snan")) (λ _. none)
-      (λ _. both-ways (same t (bytes "infinity") || same t (bytes "inf")) (λ _. none) (λ _. fair3 (before 101 t) is (from 101 t) (λ l. e-there text (h (from-holds 101 t l))))))
+      both-ways (same t (bytes "nan")) (λ _. value)
+      (λ _. both-ways (same t (bytes "snan")) (λ _. value)
+      (λ _. both-ways (same t (bytes "infinity") || same t (bytes "inf")) (λ _. value) (λ _. fair3 (before 101 t) is (from 101 t) (λ l. e-shown text (h (from-holds 101 t l))))))
 
 -- what stands after the sign, or the whole
 fair : (s : List ℕ) → Fair s (readAt s)
@@ -122,9 +140,8 @@ fair (b ∷ s) =
 -- ---- what it says of a text
 
 within : {text : List ℕ} {a : Located} → Fair text a → a .place ≤ length text
-within (byte n p) = omega arith
-within (offset n f p) = p
-within none = omega arith
+within (refusal n l p) = l
+within value = omega arith
 
 pub every-place-is-within : EveryPlaceIsWithin
 every-place-is-within s = within (fair s)
@@ -132,26 +149,26 @@ every-place-is-within s = within (fair s)
 -- what a fair refusal has
 record Has (text : List ℕ) (r : Refusal) (p : ℕ) : Type 0 where
   small : numberOf r ≤ 7
-  there : namesAByte r ≡ true → p < length text
+  shows : Shows r (drop p text)
 
 has : {text : List ℕ} {a : Located} {r : Refusal} → Fair text a → a .reading ≡ refused r → Has text r (a .place)
-has {text} {r = r} (byte {r = q} {p = o} n p) e =
-    subst (λ (k : Refusal). Has text k o) (let f : q ≡ r = cc in f) (record { small = n; there = λ _. p })
-has {text} {r = r} (offset {r = q} {p = o} n f p) e =
-    subst (λ (k : Refusal). Has text k o) (let g : q ≡ r = cc in g) (record { small = n; there = λ b. absurd (true≢false (sym b ∙ f)) })
-has none e = absurd (let z : _≡_ {A = ℕ} 0 1 = cc in omega arith)
+has {text} {r = r} (refusal {r = q} {p = o} n l p) e =
+    subst (λ (k : Refusal). Has text k o) (let f : q ≡ r = cc in f) (record { small = n; shows = p })
+has value e = absurd (let z : _≡_ {A = ℕ} 0 1 = cc in omega arith)
 
 pub refuses-by-1-to-7 : RefusesBy1To7
 refuses-by-1-to-7 s r e = has (fair s) e .small
 
+pub every-place-shows-why : EveryPlaceShowsWhy
+every-place-shows-why s r e = has (fair s) e .shows
+
 pub named-bytes-are-there : NamedBytesAreThere
-named-bytes-are-there s r e = has (fair s) e .there
+named-bytes-are-there s r e = named-there r (readAt s .place) s (every-place-shows-why s r e)
 
 -- what is accepted has the place 0
 zero-place : {text : List ℕ} {a : Located} {v : Decimal} → Fair text a → a .reading ≡ accepted v → a .place ≡ 0
-zero-place (byte n p) e = absurd (let z : _≡_ {A = ℕ} 0 1 = cc in omega arith)
-zero-place (offset n f p) e = absurd (let z : _≡_ {A = ℕ} 0 1 = cc in omega arith)
-zero-place none e = refl
+zero-place (refusal n l p) e = absurd (let z : _≡_ {A = ℕ} 0 1 = cc in omega arith)
+zero-place value e = refl
 
 pub accepted-carries-zero : AcceptedCarriesZero
 accepted-carries-zero s v e = zero-place (fair s) e

@@ -2,16 +2,17 @@
 use Prim.Native.Nat.{ℕ, _-_, _^_, _≤_, _<_}
 use mathlib.Core.Path.{_≡_}
 use mathlib.Core.Logic.{_⊎_, _↔_}
-use mathlib.Core.Bool.{Bool, true, false}
-use mathlib.Core.List.{List, _++_, map}
-use lib.ListN.{length, getD}
+use mathlib.Core.Bool.{Bool, true, false, _||_}
+use mathlib.Core.List.{List, [], _∷_, _++_, map}
+use lib.Dec.{eqb}
+use lib.ListN.{length, drop, getD}
 use Rattle.meaning.specs.Refusals.{Refusal, numberOf}
 use Rattle.meaning.specs.Refusals.Refusal.{emptyExponent, invalidExponent, invalidCoefficient, overflow, underflow, inexactRounding, unparseable, malformedBytes, noRoom, lineTooLong}
 use Rattle.meaning.specs.Decimal.{Decimal, InRange}
 use Rattle.meaning.specs.Decimal.Decimal.{nan, infinity, finite}
 use Rattle.meaning.specs.Layout.{stored, bytesOf, decode, encode}
 use Rattle.meaning.specs.Bits.{decodeBits, canonical, comesBackAs}
-use Rattle.meaning.specs.Reading.{Reading, readAt, readText}
+use Rattle.meaning.specs.Reading.{Reading, isDigit, lower, readAt, readText}
 use Rattle.meaning.specs.Reading.Reading.{refused, accepted}
 use Rattle.meaning.specs.Writing.{writeText, debugText}
 use Rattle.meaning.specs.Answers.{numberGiven, bytesGiven}
@@ -71,6 +72,28 @@ RefusesBy1To7 = (s : List ℕ) (r : Refusal) → readText s ≡ refused r → nu
 -- a place is an offset in the text, or its length
 abbrev pub EveryPlaceIsWithin : Type 0
 EveryPlaceIsWithin = (s : List ℕ) → readAt s .place ≤ length s
+
+-- a byte stands first, and P holds of it
+abbrev pub Begins : (ℕ → Type 0) → List ℕ → Type 0
+Begins P [] = ⊥
+Begins P (b ∷ s) = P b
+
+-- what stands from a place on: for 1 an `e`, for 3 a point, for 6 a byte other than `0`; for 7 neither a digit nor a point
+abbrev pub Shows : Refusal → List ℕ → Type 0
+Shows emptyExponent t = Begins (λ (b : ℕ). lower b ≡ 101) t
+Shows invalidExponent t = Unit {0}
+Shows invalidCoefficient t = Begins (λ (b : ℕ). b ≡ 46) t
+Shows overflow t = Unit {0}
+Shows underflow t = Unit {0}
+Shows inexactRounding t = Begins (λ (b : ℕ). b ≡ 48 → ⊥) t
+Shows unparseable [] = Unit {0}
+Shows unparseable (b ∷ t) = (isDigit b || eqb b 46) ≡ false
+Shows malformedBytes t = Unit {0}
+Shows noRoom t = Unit {0}
+Shows lineTooLong t = Unit {0}
+
+abbrev pub EveryPlaceShowsWhy : Type 0
+EveryPlaceShowsWhy = (s : List ℕ) (r : Refusal) → readText s ≡ refused r → Shows r (drop (readAt s .place) s)
 
 -- 1, 3 and 6 name a byte that is there
 unfoldable pub namesAByte : Refusal → Bool

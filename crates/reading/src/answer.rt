@@ -3,6 +3,8 @@ ghost use Prim.Native.Nat.{_^_, _<_, _≤_};
 ghost use Rattle.limbs.specs.Value.{value};
 ghost use Rattle.meaning.specs.Reading as meaning;
 ghost use Rattle.meaning.specs.Decimal as decimal;
+ghost use Rattle.meaning.specs.Decimal.{InRange};
+ghost use Rattle.layout.specs.Unpacked.{meant};
 ghost use Rattle.reading.specs.Told.{named, Gives};
 use layout::Kind;
 use layout::Unpacked;
@@ -42,52 +44,51 @@ pub fn refused(number: u32, place: usize) -> Answer
     }
 }
 
-// Not a number.
-pub fn nan(negative: bool, signalling: bool) -> Answer
-    ensures { λ r. ⌜ Gives (meaning.acceptedAs (decimal.Decimal.nan negative signalling)) r ⌝ }
+// A value.
+fn accepted(value: Unpacked) -> Answer
+    ensures { λ r. ⌜ (InRange (meant value) → Gives (meaning.acceptedAs (meant value)) r) ⌝ }
 {
     Answer {
         number: 0,
         place: 0,
-        value: Unpacked {
-            negative: negative,
-            kind: Kind::Nan {
-                signalling: signalling,
-            },
-            exponent: 0,
-            coefficient: [0, 0, 0, 0],
-        },
+        value: value,
     }
+}
+
+// Not a number.
+pub fn nan(negative: bool, signalling: bool) -> Answer
+    ensures { λ r. ⌜ Gives (meaning.acceptedAs (decimal.Decimal.nan negative signalling)) r ⌝ }
+{
+    accepted(Unpacked {
+        negative: negative,
+        kind: Kind::Nan {
+            signalling: signalling,
+        },
+        exponent: 0,
+        coefficient: [0, 0, 0, 0],
+    })
 }
 
 // Infinity, with its sign.
 pub fn infinity(negative: bool) -> Answer
     ensures { λ r. ⌜ Gives (meaning.acceptedAs (decimal.Decimal.infinity negative)) r ⌝ }
 {
-    Answer {
-        number: 0,
-        place: 0,
-        value: Unpacked {
-            negative: negative,
-            kind: Kind::Infinity,
-            exponent: 0,
-            coefficient: [0, 0, 0, 0],
-        },
-    }
+    accepted(Unpacked {
+        negative: negative,
+        kind: Kind::Infinity,
+        exponent: 0,
+        coefficient: [0, 0, 0, 0],
+    })
 }
 
 // A number, where its field and coefficient are those of the format.
 pub fn finite(negative: bool, field: u32, c: [u32; 4]) -> Answer
     ensures { λ r. ⌜ (field ≤ 12287 → value c < 10 ^ 34 → Gives (meaning.acceptedAs (decimal.Decimal.finite negative field (value c))) r) ⌝ }
 {
-    Answer {
-        number: 0,
-        place: 0,
-        value: Unpacked {
-            negative: negative,
-            kind: Kind::Finite,
-            exponent: field,
-            coefficient: c,
-        },
-    }
+    accepted(Unpacked {
+        negative: negative,
+        kind: Kind::Finite,
+        exponent: field,
+        coefficient: c,
+    })
 }

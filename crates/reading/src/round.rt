@@ -39,8 +39,9 @@ fn kept(
     requires { ⌜ length (run (d .found .point) first to (now s)) + pad ≤ 34 ⌝ }
     ensures { λ r. ⌜ (field ≤ 12287 → Gives (step11 (now (s .entry)) negative (low + field) (run (d .found .point) first to (now (s .entry)) ++ replicate pad 48)) r) ⌝ }
 {
-    if d.found.second < to {
-        return answer::refused(INVALID_COEFFICIENT, d.found.second);
+    let second = d.found.second;
+    if second < to {
+        return answer::refused(INVALID_COEFFICIENT, second);
     }
     let c = run::push_digits([0, 0, 0, 0], s, first, to, d.found.point);
     answer::finite(negative, field, powers::padded(c, pad))
@@ -65,7 +66,7 @@ fn placed(s: &[u8], d: Spans, first: usize, count: usize, negative: bool, x: Shi
     let end = run::after(first, count, point);
     let other = run::first_other(s, cut, end, point);
     if other < end {
-        return answer::refused(INEXACT_ROUNDING, other);
+        return answer::refused(INEXACT_ROUNDING, other); // step 9
     }
     kept(s, d, first, cut, negative, p.field, above)
 }
@@ -87,7 +88,7 @@ fn rounded(s: &[u8], start: usize, d: Spans, negative: bool, x: Shift) -> Answer
     let end = run::after(first, keep, point);
     let other = run::first_other(s, end, stop, point);
     if other < stop {
-        return answer::refused(INEXACT_ROUNDING, other);
+        return answer::refused(INEXACT_ROUNDING, other); // step 8
     }
     placed(
         s,
