@@ -29,7 +29,9 @@ enum decimal128_number {
 /* No text is longer than this; every debug form has just this length. */
 enum { DECIMAL128_TEXT = 42, DECIMAL128_DEBUG = 44 };
 
-/* Reads a text of len bytes. Accepted: the value's 16 bytes are in out16. Refused, 1 to 7: out16 holds 16 zero bytes. */
+/* Reads a text of len bytes. Accepted: the value's 16 bytes are in out16, and *place is 0. Refused, 1 to 7: out16 holds 16 zero
+ * bytes, and *place is where: an offset in the text, its sign counted, at most len. For 1 it is the `e`, for 3 the second
+ * point, for 6 a byte other than `0`, so a byte of the text; for the others it may be len, and text[*place] not a byte of it. */
 uint32_t decimal128_read(const uint8_t *text, size_t len, uint8_t out16[16], size_t *place);
 
 /* Writes the text of a stored value. Accepted: the text is the first *len bytes of buf, and the bytes after it stand as they

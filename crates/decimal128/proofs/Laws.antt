@@ -8,7 +8,6 @@ use Rattle.meaning.specs.Refusals.{numberOf}
 use Rattle.layout.proofs.Laws.{tab, listed}
 use Rattle.writing.specs.declared.Put.{Put}
 use Rattle.writing.specs.Put.{putOf, placed, Puts}
-use Rattle.decimal128.specs.declared.Parsed.{Parsed}
 use Rattle.decimal128.specs.Operations.{parsed, putNumber, putLength, PutGives}
 
 -- the same text by another name

@@ -1,11 +1,11 @@
 -- Where the places lie, and what stands there.
 use mathlib.Core.Path.{_≡_, refl, sym, ap, subst, _∙_}
 use mathlib.Core.Logic.{_⊎_, inl, inr, ⊎-elim}
-use mathlib.Core.Bool.{Bool, true, false, cond, _&&_, _||_, and-false, true≢false}
+use mathlib.Core.Bool.{Bool, true, false, _||_, and-false, true≢false}
 use mathlib.Core.List.{List, [], _∷_, _++_, map}
 use Prim.Native.Nat.{ℕ, zero, suc, _+_, _-_, _≤_, _<_, min}
 use native.Mathlib.Omega.{arith}
-use lib.Dec.{eqb, leb}
+use lib.Dec.{eqb}
 use lib.ListN.{length, take, drop, replicate, length-append, length-drop, length-map, drop-of-length-le}
 use lib.Seq.{drop-append-le, drop-append-add, drop-drop}
 use borrow.Author.Tests.{eqb-true, eqb-false, ne-eqb, le-leb, lt-leb}
@@ -77,17 +77,6 @@ padded-holds [] zero h = h
 padded-holds [] (suc n) h = padded-holds [] n h
 padded-holds (x ∷ s) n h = by-test (eqb x 46) (λ e. rw e) (λ e. rw e (padded-holds s n (rw e at h)))
 
--- what is not all zeros has a byte left when its zeros are gone, and none more than it had
-strip-some : (s : List ℕ) → allZeros s ≡ false → 1 ≤ length (stripZeros s)
-unfolding allZeros stripZeros
-strip-some [] z = absurd (true≢false z)
-strip-some (x ∷ s) z = by-test (eqb x 48) (λ e. rw e (strip-some s (rw e at z))) (λ e. rw e (omega arith))
-
-strip-most : (s : List ℕ) → length (stripZeros s) ≤ length s
-unfolding stripZeros
-strip-most [] = omega arith
-strip-most (x ∷ s) = by-test (eqb x 48) (λ e. rw e (omega (arith, strip-most s))) (λ e. rw e (omega arith))
-
 -- ---- the sign and the decimal part
 
 sign-fits : (text : List ℕ) → signLength text ≤ theE text
@@ -116,7 +105,7 @@ e-within : (text : List ℕ) → theE text ≤ length text
 unfolding theE
 e-within text = omega (arith, parted-length 101 (map lower text), length-map text lower)
 
-pub e-there : (text : List ℕ) → holds 101 (map lower text) ≡ true → theE text < length text
+e-there : (text : List ℕ) → holds 101 (map lower text) ≡ true → theE text < length text
 unfolding theE
 e-there text h = omega (arith, held-before 101 (map lower text) h, length-map text lower)
 

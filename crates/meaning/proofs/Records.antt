@@ -11,7 +11,7 @@ use Rattle.meaning.specs.Refusals.{Refusal, numberOf}
 use Rattle.meaning.specs.Refusals.Refusal.{emptyExponent, invalidExponent, invalidCoefficient, overflow, underflow, inexactRounding, unparseable, malformedBytes, noRoom, lineTooLong}
 use Rattle.meaning.specs.Decimal.{Decimal, InRange}
 use Rattle.meaning.specs.Layout.{bytesOf, encode}
-use Rattle.meaning.specs.Reading.{Reading, bytes, readAt, readText, origin, low, high, same, allDigits, allZeros, holds, decimalPart, before, from, number, stripZeros, exponent, someDigits, step2, step3, step4, step5, step6, step7, step8, step9, step10, step11}
+use Rattle.meaning.specs.Reading.{Reading, bytes, readAt, origin, low, high, same, allDigits, allZeros, holds, decimalPart, before, from, number, stripZeros, exponent, someDigits, step2, step3, step4, step5, step6, step7, step8, step9, step10, step11}
 use Rattle.meaning.specs.Reading.Reading.{refused, accepted}
 use Rattle.meaning.specs.Writing.{writeText, magnitude, decimal, digitsBefore, hexes}
 use Rattle.meaning.specs.Answers.{numberGiven}

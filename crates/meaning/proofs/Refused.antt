@@ -1,7 +1,7 @@
 -- A reading is refused by one of the numbers 1 to 7, at a place in its text.
-use mathlib.Core.Path.{_≡_, refl, sym, subst, _∙_}
+use mathlib.Core.Path.{_≡_, refl, subst}
 use mathlib.Core.Logic.{inl, inr}
-use mathlib.Core.Bool.{Bool, true, false, cond, _||_, true≢false}
+use mathlib.Core.Bool.{Bool, true, false, cond, _||_}
 use mathlib.Core.List.{List, [], _∷_, map}
 use Prim.Native.Nat.{ℕ, _+_, _-_, _≤_, _<_}
 use native.Mathlib.Nat.{le-of-lt}
@@ -10,12 +10,12 @@ use lib.Dec.{eqb, leb, lit≤}
 use lib.ListN.{length, take, drop}
 use borrow.Author.Tests.{eqb-true}
 use Rattle.meaning.specs.Refusals.{Refusal, numberOf}
-use Rattle.meaning.specs.Refusals.Refusal.{emptyExponent, invalidExponent, invalidCoefficient, overflow, underflow, inexactRounding, unparseable, malformedBytes, noRoom, lineTooLong}
+use Rattle.meaning.specs.Refusals.Refusal.{emptyExponent, invalidCoefficient, overflow, inexactRounding}
 use Rattle.meaning.specs.Decimal.{Decimal}
-use Rattle.meaning.specs.Reading.{Reading, Located, Written, refusedAt, acceptedAs, bytes, lower, same, allZeros, holds, decimalPart, before, from, fraction, runOf, low, high, lost, theE, afterE, signLength, decimalOf, secondPoint, firstCut, step2, step3, step4, step5, step6, step7, step8, step9, step10, step11, readAt, readText}
+use Rattle.meaning.specs.Reading.{Located, Written, refusedAt, acceptedAs, bytes, lower, same, allZeros, holds, decimalPart, before, from, fraction, runOf, low, high, lost, theE, afterE, signLength, decimalOf, secondPoint, firstCut, step2, step3, step4, step5, step6, step7, step8, step9, step10, step11, readAt}
 use Rattle.meaning.specs.Reading.Reading.{refused, accepted}
 use Rattle.meaning.specs.Reading.Written.{written, wrong}
-use Rattle.meaning.specs.Promises.{Begins, Shows, RefusesBy1To7, EveryPlaceIsWithin, EveryPlaceShowsWhy, NamedBytesAreThere, AcceptedCarriesZero, namesAByte}
+use Rattle.meaning.specs.Promises.{Begins, Shows, RefusesBy1To7, EveryPlaceIsWithin, EveryPlaceShowsWhy, NamedBytesAreThere, AcceptedCarriesZero, NamesAByte}
 use Rattle.meaning.proofs.Places.{either-true, from-holds, take-holds, take-other, padded-holds, decimal-signed, decimal-unsigned, begins-within, e-shown, after-within, wrong-within, wrong-shown, second-shown, cut-shown}
 
 -- a refusal is one of 1 to 7, and its place is in the text and shows why
@@ -24,18 +24,10 @@ data Fair (text : List ℕ) : Located → Type 0 where
   value : {v : Decimal} → Fair text (acceptedAs v)
 
 -- a byte is shown by 1, 3 and 6
-named-there : (r : Refusal) (p : ℕ) (s : List ℕ) → Shows r (drop p s) → namesAByte r ≡ true → p < length s
-unfolding namesAByte
-named-there emptyExponent p s b e = begins-within _ p s b
-named-there invalidCoefficient p s b e = begins-within _ p s b
-named-there inexactRounding p s b e = begins-within _ p s b
-named-there invalidExponent p s b e = absurd (true≢false (sym e))
-named-there overflow p s b e = absurd (true≢false (sym e))
-named-there underflow p s b e = absurd (true≢false (sym e))
-named-there unparseable p s b e = absurd (true≢false (sym e))
-named-there malformedBytes p s b e = absurd (true≢false (sym e))
-named-there noRoom p s b e = absurd (true≢false (sym e))
-named-there lineTooLong p s b e = absurd (true≢false (sym e))
+named-there : (r : Refusal) (p : ℕ) (s : List ℕ) → Shows r (drop p s) → NamesAByte r → p < length s
+named-there r p s b (inl e) = begins-within (λ (x : ℕ). lower x ≡ 101) p s (subst (λ (q : Refusal). Shows q (drop p s)) e b)
+named-there r p s b (inr (inl e)) = begins-within (λ (x : ℕ). x ≡ 46) p s (subst (λ (q : Refusal). Shows q (drop p s)) e b)
+named-there r p s b (inr (inr e)) = begins-within (λ (x : ℕ). x ≡ 48 → ⊥) p s (subst (λ (q : Refusal). Shows q (drop p s)) e b)
 
 -- either way of a test; what it says may be used
 both-ways : {text : List ℕ} (t : Bool) {a b : Located} → (t ≡ true → Fair text a) → (t ≡ false → Fair text b) → Fair text (cond t a b)
@@ -56,12 +48,12 @@ lies-take {text} {run} k l =
 
 module _ (text : List ℕ) (sign : Bool) where
   -- a refusal that names a byte
-  byte : (r : Refusal) (p : ℕ) → numberOf r ≤ 7 → namesAByte r ≡ true → Shows r (drop p text) → Fair text (refusedAt r p)
+  byte : (r : Refusal) (p : ℕ) → numberOf r ≤ 7 → NamesAByte r → Shows r (drop p text) → Fair text (refusedAt r p)
   byte r p n e b = refusal n (le-of-lt (named-there r p text b e)) b
 
   fair11 : (x : ℕ) (run : List ℕ) → (holds 46 run ≡ true → Begins (λ (b : ℕ). b ≡ 46) (drop (secondPoint text) text)) → Fair text (step11 text sign x run)
-  unfolding step11 numberOf namesAByte
-  fair11 x run l = both-ways (holds 46 run) (λ h. byte invalidCoefficient (secondPoint text) (lit≤ tt) refl (l h)) (λ _. value)
+  unfolding step11 numberOf
+  fair11 x run l = both-ways (holds 46 run) (λ h. byte invalidCoefficient (secondPoint text) (lit≤ tt) (inr (inl refl)) (l h)) (λ _. value)
 
   over : Fair text (refusedAt overflow (afterE text))
   unfolding numberOf
@@ -77,22 +69,22 @@ module _ (text : List ℕ) (sign : Bool) where
       (λ _. over))
 
   fair9 : (x : ℕ) (run : List ℕ) → Lies text run → Fair text (step9 text sign x run)
-  unfolding step9 numberOf namesAByte
+  unfolding step9 numberOf
   fair9 x run l =
       both-ways (leb low x)
       (λ _. fair10 x run l)
       (λ _. both-ways (leb (low - x) (length run))
       (λ _. both-ways (allZeros (lost (low - x) run))
       (λ _. fair10 _ _ (lies-take (length run - (low - x)) l))
-      (λ z. byte inexactRounding _ (lit≤ tt) refl (l .cut (length run - (low - x)) z)))
+      (λ z. byte inexactRounding _ (lit≤ tt) (inr (inr refl)) (l .cut (length run - (low - x)) z)))
       (λ _. over))
 
   fair8 : (x : ℕ) (run : List ℕ) → Lies text run → Fair text (step8 text sign x run)
-  unfolding step8 numberOf namesAByte
+  unfolding step8 numberOf
   fair8 x run l =
       both-ways (leb (length run) 34)
       (λ _. fair9 x run l)
-      (λ _. both-ways (allZeros (drop 34 run)) (λ _. fair9 _ _ (lies-take 34 l)) (λ z. byte inexactRounding _ (lit≤ tt) refl (l .cut 34 z)))
+      (λ _. both-ways (allZeros (drop 34 run)) (λ _. fair9 _ _ (lies-take 34 l)) (λ z. byte inexactRounding _ (lit≤ tt) (inr (inr refl)) (l .cut 34 z)))
 
   fair7 : (x : ℕ) (run : List ℕ) → Lies text run → Fair text (step7 text sign x run)
   unfolding step7
@@ -114,9 +106,9 @@ module _ (text : List ℕ) (sign : Bool) where
     fair4 w = both-ways (decimalPart false dec) (λ _. fair5 w) (λ _. refusal (lit≤ tt) (wrong-within text) (wrong-shown text))
 
     fair3 : (tail : List ℕ) → (1 ≤ length tail → Begins (λ (b : ℕ). lower b ≡ 101) (drop (theE text) text)) → Fair text (step3 text sign dec tail)
-    unfolding step3 numberOf namesAByte
+    unfolding step3 numberOf
     fair3 [] h = fair4 _
-    fair3 (e ∷ []) h = byte emptyExponent _ (lit≤ tt) refl (h (lit≤ tt))
+    fair3 (e ∷ []) h = byte emptyExponent _ (lit≤ tt) (inl refl) (h (lit≤ tt))
     fair3 (e ∷ b ∷ s) h = fair4 _
 
   fair2 : (t : List ℕ) → before 101 t ≡ decimalOf text → (holds 101 t ≡ true → holds 101 (map lower text) ≡ true) → Fair text (step2 text sign t)

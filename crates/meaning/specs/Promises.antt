@@ -96,21 +96,12 @@ abbrev pub EveryPlaceShowsWhy : Type 0
 EveryPlaceShowsWhy = (s : List ℕ) (r : Refusal) → readText s ≡ refused r → Shows r (drop (readAt s .place) s)
 
 -- 1, 3 and 6 name a byte that is there
-unfoldable pub namesAByte : Refusal → Bool
-namesAByte emptyExponent = true
-namesAByte invalidExponent = false
-namesAByte invalidCoefficient = true
-namesAByte overflow = false
-namesAByte underflow = false
-namesAByte inexactRounding = true
-namesAByte unparseable = false
-namesAByte malformedBytes = false
-namesAByte noRoom = false
-namesAByte lineTooLong = false
+abbrev pub NamesAByte : Refusal → Type 0
+NamesAByte r = (r ≡ emptyExponent) ⊎ ((r ≡ invalidCoefficient) ⊎ (r ≡ inexactRounding))
 
 abbrev pub NamedBytesAreThere : Type 0
 NamedBytesAreThere =
-    (s : List ℕ) (r : Refusal) → readText s ≡ refused r → namesAByte r ≡ true → readAt s .place < length s
+    (s : List ℕ) (r : Refusal) → readText s ≡ refused r → NamesAByte r → readAt s .place < length s
 
 abbrev pub AcceptedCarriesZero : Type 0
 AcceptedCarriesZero = (s : List ℕ) (v : Decimal) → readText s ≡ accepted v → readAt s .place ≡ 0

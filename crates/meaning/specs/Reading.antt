@@ -1,5 +1,6 @@
 -- What a text reads as: document 01, 'Reading text', steps 1 to 11, which are the rules of MongoDB's specification
--- source/bson-decimal128, 'From String Representation', in the order in which they are carried out.
+-- source/bson-decimal128, 'From String Representation', in the order in which they are carried out. And where it is refused:
+-- document 02, ticket 2.
 --
 -- A text is the list of its bytes, whatever they are. A step's definition ends by calling the next step's, so the file has
 -- them from the last to the first. No number here is negative: an exponent x stands as x + 2^127.
@@ -19,7 +20,7 @@ pub data Reading : Type 0 where
   refused : Refusal → Reading
   accepted : Decimal → Reading
 
--- a reading, and the place that a refusal names: document 02, ticket 2
+-- a reading, and the place of a refusal
 pub record Located : Type 0 where
   pub reading : Reading
   pub place : ℕ
@@ -120,7 +121,7 @@ unfoldable pub signLength : List ℕ → ℕ
 signLength [] = 0
 signLength (b ∷ s) = cond (eqb b 45 || eqb b 43) 1 0
 
--- from the sign to the `e`, or to the end
+-- the decimal part: after the sign, up to the `e` or to the end
 abbrev pub decimalOf : List ℕ → List ℕ
 decimalOf text = drop (signLength text) (before 101 (map lower text))
 
@@ -169,7 +170,9 @@ step9 text sign x run =
     cond (leb low x)
     (step10 text sign x run)
     (cond (leb (low - x) (length run))
-    (cond (allZeros (lost (low - x) run)) (step10 text sign low (kept (low - x) run)) (refusedAt inexactRounding (firstCut (length run - (low - x)) text)))
+    (cond (allZeros (lost (low - x) run))
+    (step10 text sign low (kept (low - x) run))
+    (refusedAt inexactRounding (firstCut (length run - (low - x)) text)))
     (refusedAt overflow (afterE text)))
 
 -- 8: a run longer than 34
@@ -177,7 +180,9 @@ unfoldable pub step8 : List ℕ → Bool → ℕ → List ℕ → Located
 step8 text sign x run =
     cond (leb (length run) 34)
     (step9 text sign x run)
-    (cond (allZeros (drop 34 run)) (step9 text sign (x + (length run - 34)) (take 34 run)) (refusedAt inexactRounding (firstCut 34 text)))
+    (cond (allZeros (drop 34 run))
+    (step9 text sign (x + (length run - 34)) (take 34 run))
+    (refusedAt inexactRounding (firstCut 34 text)))
 
 -- 7: the leading zeros are gone; where nothing is left the run is `0`
 unfoldable pub step7 : List ℕ → Bool → ℕ → List ℕ → Located

@@ -1,14 +1,14 @@
 -- The places of a text's refusals, by what the pass over its decimal part found.
 use mathlib.Core.Path.{_≡_, refl, sym, ap, _∙_}
 use mathlib.Core.Logic.{_⊎_, inl, inr, ⊎-elim}
-use mathlib.Core.Bool.{Bool, true, false, cond, _||_, true≢false}
+use mathlib.Core.Bool.{Bool, false, true≢false}
 use mathlib.Core.List.{List, [], _∷_, _++_, map}
-use Prim.Native.Nat.{ℕ, suc, _+_, _-_, _≤_, _<_, min}
+use Prim.Native.Nat.{ℕ, _+_, _-_, _≤_, _<_, min}
 use native.Mathlib.Omega.{arith}
-use lib.Dec.{eqb, leb}
+use lib.Dec.{eqb}
 use lib.ListN.{length, getD, drop, length-append, length-drop, length-map}
 use borrow.Author.Tests.{eqb-true, eq-eqb, ne-eqb, le-leb, lt-leb}
-use Rattle.meaning.specs.Reading.{refusedAt, isDigit, lower, before, from, fraction, stripZeros, allZeros, runOf, theE, afterE, signLength, decimalOf, secondPoint, plainBytes, wrongByte, lastBytes, firstCut, decimalPart, step3}
+use Rattle.meaning.specs.Reading.{refusedAt, lower, before, from, fraction, stripZeros, allZeros, runOf, theE, afterE, signLength, decimalOf, secondPoint, plainBytes, wrongByte, lastBytes, firstCut, decimalPart, step3}
 use Rattle.meaning.specs.Refusals.{numberOf}
 use Rattle.meaning.proofs.Numbers.{by-test, eq-or, le-or}
 use Rattle.meaning.proofs.Accepted.{parted}
@@ -22,7 +22,7 @@ use Rattle.reading.specs.Told.{named}
 use Rattle.reading.proofs.Bytes.{true-or, decimals-more, decimals-none, first-here, first-later, second-next, second-later}
 use Rattle.reading.proofs.Lower.{lower-plain}
 use Rattle.reading.proofs.Walk.{run-parts, run-rest, length-run, counted-apart, counted-across, zeros-not}
-use Rattle.reading.proofs.Split.{before-plain, first-low, first-length, without-first, step3-wrong}
+use Rattle.reading.proofs.Split.{before-plain, first-length, without-first, step3-wrong}
 use Rattle.reading.proofs.Points.{part, fits, stop-within, run-whole}
 
 -- ---- the sign and the decimal part
@@ -53,7 +53,7 @@ plain-is (x ∷ l) =
     (true-or (isPlain x))
 
 module _ (s : List ℕ) (start : ℕ) (sign : signLength s ≡ start) where
-  pub wrong-is : wrongByte s ≡ start + length (decimals (drop start s))
+  wrong-is : wrongByte s ≡ start + length (decimals (drop start s))
   unfolding wrongByte
   wrong-is = rw (decimal-is s, sign, plain-is (drop start s))
 
