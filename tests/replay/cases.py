@@ -18,6 +18,11 @@ def _refused(number, place):
     return b"%d\t-\t-\t%d\n" % (number, place)
 
 
+def _refusals(*groups, end=b"\n"):
+    """A line for each text of the groups, a group being texts that are refused with one number, each with its place."""
+    return [(text + end, _refused(number, place)) for number, texts in groups for text, place in texts.items()]
+
+
 _EXAMPLE = [(b"1\n", _ONE), (b"0.5\n", _HALF), (b"-inf\n", _MINUS_INFINITY), (b"1e\n", _refused(1, 1))]
 
 _BYTES = [
@@ -30,12 +35,7 @@ _BYTES = [
     (b"0" * 70000 + b"\n", _TOO_LONG),
     (b"2\n", _TWO),
     # NUL, bytes above 127 and a space are text
-    (b"\x001\n", _refused(7, 0)),
-    (b"1\x00\n", _refused(7, 1)),
-    (b"\xff\n", _refused(7, 0)),
-    (b"1\x80\n", _refused(7, 1)),
-    (b"1e\xc3\xa9\n", _refused(2, 2)),
-    (b" 1\n", _refused(7, 0)),
+    *_refusals((7, {b"\x001": 0, b"1\x00": 1, b"\xff": 0, b"1\x80": 1}), (2, {b"1e\xc3\xa9": 2}), (7, {b" 1": 0})),
 ]
 
 _CARRIAGE_RETURNS = [(line[:-1] + b"\r\n", record) for line, record in _EXAMPLE] + [
@@ -52,9 +52,7 @@ _CARRIAGE_RETURNS = [(line[:-1] + b"\r\n", record) for line, record in _EXAMPLE]
     (b"\r1\n", _refused(7, 0)),
     (b"1e5\r0\r\n", _refused(2, 2)),
     # of two CRs the first is text
-    (b"1\r\r\n", _refused(7, 1)),
-    (b"1e5\r\r\n", _refused(2, 2)),
-    (b"\r\r\n", _refused(7, 0)),
+    *_refusals((7, {b"1\r": 1}), (2, {b"1e5\r": 2}), (7, {b"\r": 0}), end=b"\r\n"),
     # LF CR LF: a line, and an empty one
     (b"1\n", _ONE),
     (b"\r\n", _refused(7, 0)),
@@ -72,173 +70,87 @@ _CARRIAGE_RETURNS = [(line[:-1] + b"\r\n", record) for line, record in _EXAMPLE]
 _FULL = b"1" + b"0" * 33  # a run of 34 bytes: all that step 8 keeps
 _LOWEST = b"-170141183460469231731687303715884105728"  # the lowest exponent, -2^127
 
-# a text, the number of its refusal, and the place; without an `e`, 4 and step 9's 6 need a longer text than a line may have:
-# tests/c/check.c has them
-_PLACES = [
+# without an `e`, 4 and step 9's 6 need a longer text than a line may have: tests/c/check.c has them
+_PLACES = _refusals(
     # 1: the `e`
-    (b"e", 1, 0),
-    (b"E", 1, 0),
-    (b"-e", 1, 1),
-    (b"+1.5E", 1, 4),
-    (b"1.2.3e", 1, 5),
-    (b"infinite", 1, 7),
-    (b"-infinite", 1, 8),
-    (b"+INFINITE", 1, 8),
-    (b"0" * 4095 + b"e", 1, 4095),
+    (1, {
+        b"e": 0, b"E": 0, b"-e": 1, b"+1.5E": 4, b"1.2.3e": 5, b"infinite": 7, b"-infinite": 8, b"+INFINITE": 8,
+        b"0" * 4095 + b"e": 4095,
+    }),
     # .. also where a byte before it is wrong
-    (b"xe", 1, 1),
-    (b"--1E", 1, 3),
+    (1, {b"xe": 1, b"--1E": 3}),
     # 7: the first wrong byte
-    (b"x", 7, 0),
-    (b"-x", 7, 1),
-    (b"1x2", 7, 1),
-    (b"1x2e5", 7, 1),
-    (b"-1x2E5", 7, 2),
-    (b"12.5x.y", 7, 4),
-    (b"1,5", 7, 1),
-    (b"0x10", 7, 1),
-    (b"1/2", 7, 1),
-    (b"1:2", 7, 1),
-    (b"-\xff", 7, 1),
-    (b"1.5\xc3\xa9", 7, 3),
-    (b"1\t2", 7, 1),
-    (b"0" * 4095 + b"x", 7, 4095),
+    (7, {
+        b"x": 0, b"-x": 1, b"1x2": 1, b"1x2e5": 1, b"-1x2E5": 2, b"12.5x.y": 4, b"1,5": 1, b"0x10": 1, b"1/2": 1,
+        b"1:2": 1, b"-\xff": 1, b"1.5\xc3\xa9": 3, b"1\t2": 1, b"0" * 4095 + b"x": 4095,
+    }),
     # .. a second sign
-    (b"+-1", 7, 1),
-    (b"--1", 7, 1),
-    (b"1-", 7, 1),
-    (b"-1+2e5", 7, 2),
+    (7, {b"+-1": 1, b"--1": 1, b"1-": 1, b"-1+2e5": 2}),
     # .. the first letter of a word that is no special one
-    (b"nanx", 7, 0),
-    (b"-NaN1", 7, 1),
-    (b"infinit", 7, 0),
-    (b"+Infinit", 7, 1),
-    (b"-infinity ", 7, 1),
-    (b"snan1e5", 7, 0),
-    (b"1nan", 7, 1),
+    (7, {b"nanx": 0, b"-NaN1": 1, b"infinit": 0, b"+Infinit": 1, b"-infinity ": 1, b"snan1e5": 0, b"1nan": 1}),
     # .. also where no digit stands, or the exponent is wrong too
-    (b".x", 7, 1),
-    (b"..x.e5", 7, 2),
-    (b"x1e+", 7, 0),
+    (7, {b".x": 1, b"..x.e5": 2, b"x1e+": 0}),
     # 7: the decimal part's end, where only a digit is missing
-    (b"", 7, 0),
-    (b"-", 7, 1),
-    (b"+", 7, 1),
-    (b".", 7, 1),
-    (b"-.", 7, 2),
-    (b"..", 7, 2),
-    (b"e5", 7, 0),
-    (b"-E5", 7, 1),
-    (b".e5", 7, 1),
-    (b"..e5", 7, 2),
-    (b"+..E5", 7, 3),
-    (b".e+", 7, 1),
-    (b"." * 4096, 7, 4096),
-    (b"-" + b"." * 4093 + b"E5", 7, 4094),
+    (7, {
+        b"": 0, b"-": 1, b"+": 1, b".": 1, b"-.": 2, b"..": 2, b"e5": 0, b"-E5": 1, b".e5": 1, b"..e5": 2,
+        b"+..E5": 3, b".e+": 1, b"." * 4096: 4096, b"-" + b"." * 4093 + b"E5": 4094,
+    }),
     # 2: the byte after the `e`, whichever byte of the exponent is wrong
-    (b"1e+", 2, 2),
-    (b"1E-", 2, 2),
-    (b"-1e+", 2, 3),
-    (b"+1.5E--5", 2, 5),
-    (b"1ex", 2, 2),
-    (b"1e5x", 2, 2),
-    (b"1e5.0", 2, 2),
-    (b"1E5 ", 2, 2),
-    (b"1ee5", 2, 2),
-    (b"-1E5e5", 2, 3),
-    (b"1.2.3e+", 2, 6),
-    (b"0e170141183460469231731687303715884105728", 2, 2),
-    (b"-0E-170141183460469231731687303715884105729", 2, 3),
-    (b"0" * 4094 + b"e+", 2, 4095),
+    (2, {
+        b"1e+": 2, b"1E-": 2, b"-1e+": 3, b"+1.5E--5": 5, b"1ex": 2, b"1e5x": 2, b"1e5.0": 2, b"1E5 ": 2, b"1ee5": 2,
+        b"-1E5e5": 3, b"1.2.3e+": 6, b"0e170141183460469231731687303715884105728": 2,
+        b"-0E-170141183460469231731687303715884105729": 3, b"0" * 4094 + b"e+": 4095,
+    }),
     # 3: the second point
-    (b"1.2.3", 3, 3),
-    (b"-1.2.3", 3, 4),
-    (b"1.2.3e5", 3, 3),
-    (b"+1.2.3E5", 3, 4),
-    (b"1..", 3, 2),
-    (b"..1", 3, 1),
-    (b"1.2.3.4.5", 3, 3),
+    (3, {b"1.2.3": 3, b"-1.2.3": 4, b"1.2.3e5": 3, b"+1.2.3E5": 4, b"1..": 2, b"..1": 1, b"1.2.3.4.5": 3}),
     # .. after zeros
-    (b"0.0.", 3, 3),
-    (b"-000.000.1", 3, 8),
-    (b"0" * 4093 + b"..0", 3, 4094),
+    (3, {b"0.0.": 3, b"-000.000.1": 8, b"0" * 4093 + b"..0": 4094}),
     # .. as the last byte that is kept: zeros are cut behind it
-    (b"1." + b"0" * 32 + b".", 3, 34),
-    (b"1." + b"0" * 32 + b".000", 3, 34),
-    (b"1.2.00e-6174", 3, 3),
+    (3, {b"1." + b"0" * 32 + b".": 34, b"1." + b"0" * 32 + b".000": 34, b"1.2.00e-6174": 3}),
     # .. with zeros appended up to 34 bytes
-    (b"1.2.3E6144", 3, 3),
+    (3, {b"1.2.3E6144": 3}),
     # 6 in step 8: of what stands beyond 34 bytes, the first that is not 0
-    (_FULL + b"1", 6, 34),
-    (b"-" + _FULL + b"1", 6, 35),
-    (_FULL + b"1e5", 6, 34),
-    (b"+" + _FULL + b"1E-5", 6, 35),
-    (b"9" * 40, 6, 34),
+    (6, {_FULL + b"1": 34, b"-" + _FULL + b"1": 35, _FULL + b"1e5": 34, b"+" + _FULL + b"1E-5": 35, b"9" * 40: 34}),
     # .. zeros are cut before it
-    (_FULL + b"0070", 6, 36),
-    (_FULL + b"0" * 4061 + b"1", 6, 4095),
+    (6, {_FULL + b"0070": 36, _FULL + b"0" * 4061 + b"1": 4095}),
     # .. leading zeros are not of the run
-    (b"000" + _FULL + b"1", 6, 37),
-    (b"0." + _FULL + b"1", 6, 36),
-    (b"-00.00" + _FULL + b"01", 6, 41),
-    (b"0" * 4061 + _FULL + b"1", 6, 4095),
+    (6, {
+        b"000" + _FULL + b"1": 37, b"0." + _FULL + b"1": 36, b"-00.00" + _FULL + b"01": 41,
+        b"0" * 4061 + _FULL + b"1": 4095,
+    }),
     # .. nor is the first point, before the cut, at it, or among what is cut
-    (b"1." + b"0" * 33 + b"1", 6, 35),
-    (_FULL + b".5", 6, 35),
-    (_FULL + b"0.05", 6, 37),
-    (_FULL + b"5.0", 6, 34),
+    (6, {b"1." + b"0" * 33 + b"1": 35, _FULL + b".5": 35, _FULL + b"0.05": 37, _FULL + b"5.0": 34}),
     # .. a second point is, and is not 0
-    (b"1." + b"0" * 33 + b".", 6, 35),
-    (b"1." + b"0" * 33 + b"0.5", 6, 36),
-    (b"-" + _FULL + b"..e5", 6, 36),
-    (b".." + b"0" * 33 + b"12", 6, 35),
+    (6, {
+        b"1." + b"0" * 33 + b".": 35, b"1." + b"0" * 33 + b"0.5": 36, b"-" + _FULL + b"..e5": 36,
+        b".." + b"0" * 33 + b"12": 35,
+    }),
     # .. and step 9 would have cut more
-    (b"12" + b"0" * 32 + b"1e-6210", 6, 34),
+    (6, {b"12" + b"0" * 32 + b"1e-6210": 34}),
     # 6 in step 9: of what stands below 10^-6176, the first that is not 0
-    (b"1e-6177", 6, 0),
-    (b"-1E-6177", 6, 1),
-    (b"+12e-6177", 6, 2),
-    (b"120E-6178", 6, 1),
-    (b"123e-6179", 6, 0),
+    (6, {b"1e-6177": 0, b"-1E-6177": 1, b"+12e-6177": 2, b"120E-6178": 1, b"123e-6179": 0}),
     # .. zeros are cut before it
-    (b"102e-6178", 6, 2),
-    (b"1002E-6179", 6, 3),
+    (6, {b"102e-6178": 2, b"1002E-6179": 3}),
     # .. leading zeros are not of the run
-    (b"0012e-6177", 6, 3),
-    (b"-0.0012E-6173", 6, 6),
-    (b"0" * 4089 + b"1e-6177", 6, 4089),
+    (6, {b"0012e-6177": 3, b"-0.0012E-6173": 6, b"0" * 4089 + b"1e-6177": 4089}),
     # .. nor is the first point, before the cut, at it, or among what is cut
-    (b"1.23e-6175", 6, 3),
-    (b"-1.5E-6176", 6, 3),
-    (b"12.3e-6177", 6, 1),
-    (b"10.2e-6177", 6, 3),
+    (6, {b"1.23e-6175": 3, b"-1.5E-6176": 3, b"12.3e-6177": 1, b"10.2e-6177": 3}),
     # .. a second point is, and is not 0
-    (b"1.2.3E-6176", 6, 2),
-    (b"1.0.0e-6175", 6, 3),
-    (b"-1.2.E-6175", 6, 4),
-    (b"..0e-6176", 6, 1),
+    (6, {b"1.2.3E-6176": 2, b"1.0.0e-6175": 3, b"-1.2.E-6175": 4, b"..0e-6176": 1}),
     # .. after step 8 cut zeros
-    (b"12" + b"0" * 33 + b"e-6210", 6, 1),
-    (b"-1." + _FULL + b"E-6176", 6, 3),
+    (6, {b"12" + b"0" * 33 + b"e-6210": 1, b"-1." + _FULL + b"E-6176": 3}),
     # 4: the byte after the `e`
-    (b"1e6145", 4, 2),
-    (b"-1E6145", 4, 3),
-    (b"+1.0e+6146", 4, 5),
-    (b"9" * 34 + b"E6112", 4, 35),
-    (b"1e-6178", 4, 2),
-    (b"-1E-6178", 4, 3),
-    (b"0.1e-6177", 4, 4),
-    (b"1E" + _LOWEST, 4, 2),
-    (b"-1e170141183460469231731687303715884105727", 4, 3),
-    (b"1.2.3E6145", 4, 6),
-    (b"0" * 4090 + b"1e6145", 4, 4092),
+    (4, {
+        b"1e6145": 2, b"-1E6145": 3, b"+1.0e+6146": 5, b"9" * 34 + b"E6112": 35, b"1e-6178": 2, b"-1E-6178": 3,
+        b"0.1e-6177": 4, b"1E" + _LOWEST: 2, b"-1e170141183460469231731687303715884105727": 3, b"1.2.3E6145": 6,
+        b"0" * 4090 + b"1e6145": 4092,
+    }),
     # 5: the byte after the `e`
-    (b".0e" + _LOWEST, 5, 3),
-    (b"0.0E" + _LOWEST, 5, 4),
-    (b"-0.0e" + _LOWEST, 5, 5),
-    (b"+1..E" + _LOWEST, 5, 5),
-    (b"0" * 4053 + b".0e" + _LOWEST, 5, 4056),
-]
+    (5, {
+        b".0e" + _LOWEST: 3, b"0.0E" + _LOWEST: 4, b"-0.0e" + _LOWEST: 5, b"+1..E" + _LOWEST: 5,
+        b"0" * 4053 + b".0e" + _LOWEST: 4056,
+    }),
+)
 
 # the programs read blocks of 65,536 bytes; each line here is cut so that its first part ends with a block
 _CUT = [
@@ -260,7 +172,7 @@ def _at_block_ends(length):
 
 _WHOLE = _EXAMPLE + _BYTES + _CARRIAGE_RETURNS
 _WHOLE += _at_block_ends(sum(len(line) for line, _ in _WHOLE))
-_WHOLE += [(text + b"\n", _refused(number, place)) for text, number, place in _PLACES]
+_WHOLE += _PLACES
 STDIN = b"".join(line for line, _ in _WHOLE)
 STDOUT = b"".join(record for _, record in _WHOLE)
 

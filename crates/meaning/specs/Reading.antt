@@ -143,7 +143,7 @@ unfoldable pub lastBytes : ℕ → List ℕ → ℕ
 lastBytes k dec =
     cond (leb k (length (fraction dec))) (length dec - k) (length (before 46 dec) + length (fraction dec) - k)
 
--- 6: the first byte other than `0` among those cut, where the first n of the run are kept
+-- 6: the first byte other than `0` among those cut, where the first n of the run are kept; a step that refuses cuts one
 unfoldable pub firstCut : ℕ → List ℕ → ℕ
 firstCut n text = signLength text + lastBytes (length (stripZeros (drop n (runOf (decimalOf text))))) (decimalOf text)
 

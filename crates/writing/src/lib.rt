@@ -24,7 +24,7 @@ pub enum Put {
 }
 
 // A text that is known beforehand.
-pub fn text(buf: &mut [u8], s: &[u8]) -> Put
+fn text(buf: &mut [u8], s: &[u8]) -> Put
     ensures { λ r. ⌜ Puts (now (s .entry)) (now (buf .entry)) r (now (buf .exit)) ⌝ }
 {
     let n = s.len();
