@@ -8,7 +8,7 @@ use lib.Dec.{lit≤}
 use lib.ListN.{length, length-append}
 use borrow.Author.Tests.{le-leb, lt-leb}
 use Rattle.meaning.specs.Refusals.{Refusal, numberOf}
-use Rattle.meaning.specs.Refusals.Refusal.{emptyExponent, invalidExponent, invalidCoefficient, overflow, underflow, inexactRounding, unparseable, malformedBytes, noRoom, lineTooLong}
+use Rattle.meaning.specs.Refusals.Refusal.{emptyExponent, invalidExponent, invalidCoefficient, overflow, underflow, inexactRounding, unparseable, malformedBytes, noRoom, lineTooLong, notOrdered}
 use Rattle.meaning.specs.Decimal.{Decimal, InRange}
 use Rattle.meaning.specs.Layout.{bytesOf, encode}
 use Rattle.meaning.specs.Reading.{Reading, bytes, readAt, origin, low, high, same, allDigits, allZeros, holds, decimalPart, before, from, number, stripZeros, exponent, someDigits, step2, step3, step4, step5, step6, step7, step8, step9, step10, step11}
@@ -36,6 +36,7 @@ two-digits unparseable = omega arith
 two-digits malformedBytes = omega arith
 two-digits noRoom = omega arith
 two-digits lineTooLong = omega arith
+two-digits notOrdered = omega arith
 
 -- a refusal has a place of at most four digits, and what is accepted the place 0
 record-length : (a : Reading) (p : ℕ) → p ≤ 4096 → ((v : Decimal) → a ≡ accepted v → InRange v × (p ≡ 0)) → length (recordText (record { reading = a; place = p })) ≤ 80

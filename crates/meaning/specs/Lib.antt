@@ -5,6 +5,7 @@ pub mod Bits
 pub mod Reading
 pub mod Writing
 pub mod Grammar
+pub mod Order
 pub mod Answers
 pub mod Stream
 pub mod Rows

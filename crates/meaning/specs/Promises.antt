@@ -6,8 +6,9 @@ use mathlib.Core.Bool.{Bool, true, false, _||_}
 use mathlib.Core.List.{List, [], _∷_, _++_, map}
 use lib.Dec.{eqb}
 use lib.ListN.{length, drop, getD}
+use lib.IntN.ℤ.{pos, negsuc}
 use Rattle.meaning.specs.Refusals.{Refusal, numberOf}
-use Rattle.meaning.specs.Refusals.Refusal.{emptyExponent, invalidExponent, invalidCoefficient, overflow, underflow, inexactRounding, unparseable, malformedBytes, noRoom, lineTooLong}
+use Rattle.meaning.specs.Refusals.Refusal.{emptyExponent, invalidExponent, invalidCoefficient, overflow, underflow, inexactRounding, unparseable, malformedBytes, noRoom, lineTooLong, notOrdered}
 use Rattle.meaning.specs.Decimal.{Decimal, InRange}
 use Rattle.meaning.specs.Decimal.Decimal.{nan, infinity, finite}
 use Rattle.meaning.specs.Layout.{stored, bytesOf, decode, encode}
@@ -18,7 +19,10 @@ use Rattle.meaning.specs.Writing.{writeText, debugText}
 use Rattle.meaning.specs.Answers.{numberGiven, bytesGiven}
 use Rattle.meaning.specs.Stream.{lineRecord}
 use Rattle.meaning.specs.Rows.{Row, rows, rowOf}
-use Rattle.meaning.specs.Grammar.{Sign, FiniteText, Grammatical, Word, Storable, Kept, signText, negative, textOf, wholeOf}
+use Rattle.meaning.specs.Grammar.{Sign, FiniteText, Grammatical, Word, SameValue, Storable, Kept, signText, negative, textOf, wholeOf}
+use Rattle.meaning.specs.Order.{Relation, Choice, relation, orderGiven, larger}
+use Rattle.meaning.specs.Order.Relation.{less, equal, greater, unordered}
+use Rattle.meaning.specs.Order.Choice.{first, second, neither}
 
 -- ---- the layout
 
@@ -91,6 +95,7 @@ Shows unparseable (b ∷ t) = (isDigit b || eqb b 46) ≡ false
 Shows malformedBytes t = Unit {0}
 Shows noRoom t = Unit {0}
 Shows lineTooLong t = Unit {0}
+Shows notOrdered t = Unit {0}
 
 abbrev pub EveryPlaceShowsWhy : Type 0
 EveryPlaceShowsWhy = (s : List ℕ) (r : Refusal) → readText s ≡ refused r → Shows r (drop (readAt s .place) s)
@@ -146,6 +151,73 @@ StoredComesBack =
     (b : List ℕ) → length b ≡ 16 → Bytes b →
     (numberGiven (readText (writeText (decode (stored b)))) ≡ 0)
     × (bytesGiven (readText (writeText (decode (stored b)))) ≡ bytesOf 16 (comesBackAs (stored b)))
+
+-- ---- order
+
+abbrev pub NotNan : Decimal → Type 0
+NotNan (nan s q) = ⊥
+NotNan (infinity s) = Unit {0}
+NotNan (finite s e c) = Unit {0}
+
+-- with a NaN unordered, otherwise one of the other three
+abbrev pub OrderedUnlessNan : Type 0
+OrderedUnlessNan = (v w : Decimal) → (relation v w ≡ unordered → ⊥) ↔ (NotNan v × NotNan w)
+
+abbrev pub OneOfThree : Type 0
+OneOfThree = (r : Relation) → (orderGiven r ≡ negsuc 0) ⊎ ((orderGiven r ≡ pos 0) ⊎ (orderGiven r ≡ pos 1))
+
+abbrev pub turned : Relation → Relation
+turned less = greater
+turned equal = equal
+turned greater = less
+turned unordered = unordered
+
+-- antisymmetric
+abbrev pub TurnsRound : Type 0
+TurnsRound = (v w : Decimal) → relation w v ≡ turned (relation v w)
+
+abbrev pub AtMost : Decimal → Decimal → Type 0
+AtMost v w = (relation v w ≡ less) ⊎ (relation v w ≡ equal)
+
+abbrev pub LessIsTransitive : Type 0
+LessIsTransitive = (u v w : Decimal) → relation u v ≡ less → relation v w ≡ less → relation u w ≡ less
+
+abbrev pub AtMostIsTransitive : Type 0
+AtMostIsTransitive = (u v w : Decimal) → AtMost u v → AtMost v w → AtMost u w
+
+-- equal values compare alike with every third
+abbrev pub EqualsCompareAlike : Type 0
+EqualsCompareAlike = (u v w : Decimal) → relation u v ≡ equal → relation u w ≡ relation v w
+
+-- one infinity, or one number, whose sign counts unless it is zero
+abbrev pub Same : Decimal → Decimal → Type 0
+Same (nan s q) w = ⊥
+Same (infinity s) (nan t q) = ⊥
+Same (infinity s) (infinity t) = s ≡ t
+Same (infinity s) (finite t e c) = ⊥
+Same (finite s x a) (nan t q) = ⊥
+Same (finite s x a) (infinity t) = ⊥
+Same (finite s x a) (finite t e c) = SameValue a x c e × ((s ≡ t) ⊎ (a ≡ 0))
+
+abbrev pub EqualIsSame : Type 0
+EqualIsSame = (v w : Decimal) → (relation v w ≡ equal) ↔ Same v w
+
+-- ---- the larger of two texts
+
+-- the text is read as the value, which is no NaN
+abbrev pub Counts : List ℕ → Decimal → Type 0
+Counts s v = (readText s ≡ accepted v) × NotNan v
+
+-- none is greater than the one that is handed back: the first unless it is less
+abbrev pub NoneIsGreater : Type 0
+NoneIsGreater =
+    (a b : List ℕ) (v w : Decimal) → Counts a v → Counts b w →
+    ((larger a b ≡ first) × AtMost w v) ⊎ ((larger a b ≡ second) × (relation v w ≡ less))
+
+-- an empty part exactly where a text is refused or a NaN
+abbrev pub NeitherUnlessBothCount : Type 0
+NeitherUnlessBothCount =
+    (a b : List ℕ) → (larger a b ≡ neither → ⊥) ↔ (((v : Decimal) × Counts a v) × ((w : Decimal) × Counts b w))
 
 -- ---- the table of edges
 

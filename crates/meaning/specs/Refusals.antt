@@ -1,9 +1,9 @@
--- The refusals and their numbers: document 01, 'Numbers of the refusals'.
+-- The refusals and their numbers: document 01, 'Numbers of the refusals', and ticket 3 of document 02.
 use Prim.Native.Nat.{ℕ}
 
 pub data Refusal : Type 0 where
   emptyExponent invalidExponent invalidCoefficient overflow underflow inexactRounding unparseable : Refusal
-  malformedBytes noRoom lineTooLong : Refusal
+  malformedBytes noRoom lineTooLong notOrdered : Refusal
 
 -- the paper's number; 0 is no refusal's, it stands for accepted
 unfoldable pub numberOf : Refusal → ℕ
@@ -17,3 +17,4 @@ numberOf unparseable = 7
 numberOf malformedBytes = 8
 numberOf noRoom = 9
 numberOf lineTooLong = 10
+numberOf notOrdered = 11

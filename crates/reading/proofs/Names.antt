@@ -4,7 +4,7 @@ use Prim.Native.Nat.{ℕ, zero, suc, _≤_, _<_}
 use native.Mathlib.Omega.{arith}
 use lib.Dec.{lit<}
 use Rattle.meaning.specs.Refusals.{Refusal, numberOf}
-use Rattle.meaning.specs.Refusals.Refusal.{emptyExponent, invalidExponent, invalidCoefficient, overflow, underflow, inexactRounding, unparseable, malformedBytes, noRoom, lineTooLong}
+use Rattle.meaning.specs.Refusals.Refusal.{emptyExponent, invalidExponent, invalidCoefficient, overflow, underflow, inexactRounding, unparseable, malformedBytes, noRoom, lineTooLong, notOrdered}
 use Rattle.reading.specs.Told.{named}
 
 pub name-of : (r : Refusal) → named (numberOf r) ≡ r
@@ -19,6 +19,7 @@ name-of unparseable = refl
 name-of malformedBytes = refl
 name-of noRoom = refl
 name-of lineTooLong = refl
+name-of notOrdered = refl
 
 pub number-of : (n : ℕ) → 0 < n → n ≤ 10 → numberOf (named n) ≡ n
 unfolding named numberOf
@@ -48,3 +49,4 @@ number-some unparseable = lit< tt
 number-some malformedBytes = lit< tt
 number-some noRoom = lit< tt
 number-some lineTooLong = lit< tt
+number-some notOrdered = lit< tt

@@ -4,7 +4,7 @@ use mathlib.Core.Bool.{cond}
 use Prim.Native.Nat.{ℕ}
 use lib.Dec.{eqb}
 use Rattle.meaning.specs.Refusals.{Refusal}
-use Rattle.meaning.specs.Refusals.Refusal.{emptyExponent, invalidExponent, invalidCoefficient, overflow, underflow, inexactRounding, unparseable, malformedBytes, noRoom, lineTooLong}
+use Rattle.meaning.specs.Refusals.Refusal.{emptyExponent, invalidExponent, invalidCoefficient, overflow, underflow, inexactRounding, unparseable, malformedBytes, noRoom, lineTooLong, notOrdered}
 use Rattle.meaning.specs.Decimal.{InRange}
 use Rattle.meaning.specs.Reading.{Located}
 use Rattle.meaning.specs.Reading.Reading.{refused, accepted}
@@ -22,7 +22,8 @@ named n =
     (cond (eqb n 6) inexactRounding
     (cond (eqb n 7) unparseable
     (cond (eqb n 8) malformedBytes
-    (cond (eqb n 9) noRoom lineTooLong))))))))
+    (cond (eqb n 9) noRoom
+    (cond (eqb n 10) lineTooLong notOrdered)))))))))
 
 unfoldable pub told : Answer → Located
 told r =
