@@ -1,8 +1,10 @@
-/* Decimal text to the 16 stored bytes of decimal128 and back (IEEE 754-2008, binary integer form, lowest byte first).
+/* Decimal text to the 16 stored bytes of decimal128 and back, and which of two is greater (IEEE 754-2008, binary integer form,
+ * lowest byte first).
  *
  * Every function answers on any bytes and any lengths, 0 included, and returns the number of its answer: DECIMAL128_ACCEPTED,
- * or which refusal it is. A pointer is never null, and an output overlaps no other argument: that is C's side of the bargain.
- * A length of 0 still wants a pointer that is not null. */
+ * or which refusal it is; decimal128_larger alone has no number. A pointer is never null, and an output overlaps no other
+ * argument: that is C's side of the bargain. Two inputs may overlap, or be the same. A length of 0 still wants a pointer that
+ * is not null. */
 #ifndef DECIMAL128_H
 #define DECIMAL128_H
 
@@ -23,7 +25,9 @@ enum decimal128_number {
     DECIMAL128_INEXACT_ROUNDING = 6,
     DECIMAL128_UNPARSEABLE = 7,
     DECIMAL128_MALFORMED_BYTES = 8,
-    DECIMAL128_NO_ROOM = 9
+    DECIMAL128_NO_ROOM = 9,
+    /* 10 is of the programs alone */
+    DECIMAL128_NOT_ORDERED = 11
 };
 
 /* No text is longer than this; every debug form has just this length. */
@@ -43,6 +47,22 @@ uint32_t decimal128_debug(const uint8_t bytes16[16], uint8_t *buf, size_t cap, s
 
 /* Takes 16 bytes as they are. A len other than 16 is refused with 8, MalformedBytes, and out16 holds 16 zero bytes. */
 uint32_t decimal128_parse(const uint8_t *bytes, size_t len, uint8_t out16[16]);
+
+/* Compares two stored values, canonical or not, by value: *order is -1, 0 or 1 as a is less than, equal to or greater than b,
+ * and 0 is returned. Minus zero equals zero, 0.70 equals 0.7, and the infinities stand at the ends, each equal to itself. With
+ * a NaN, be it a, b or both, *order is 0 and 11, NotOrdered, is returned: an order of 0 says equal only beside the number 0. */
+uint32_t decimal128_compare(const uint8_t a16[16], const uint8_t b16[16], int32_t *order);
+
+/* A part of a text that was lent: len bytes from start on, good for as long as that text is. */
+struct decimal128_part {
+    const uint8_t *start;
+    size_t len;
+};
+
+/* Of two texts, gives the one whose value is greater, and the first when they are equal by value. *part is then that text
+ * itself, as it was lent: {a, alen} or {b, blen}. Where either text is refused or is NaN, *part is {a, 0}, an empty part of the
+ * first; no accepted text is empty, so a len of 0 says just that. What *part holds before is not read. */
+void decimal128_larger(const uint8_t *a, size_t alen, const uint8_t *b, size_t blen, struct decimal128_part *part);
 
 #ifdef __cplusplus
 }

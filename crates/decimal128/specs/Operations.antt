@@ -2,21 +2,26 @@
 use Prim.Native.Nat.{ℕ}
 use mathlib.Core.Path.{_≡_}
 use mathlib.Core.Bool.{cond}
-use mathlib.Core.List.{List}
+use mathlib.Core.List.{List, []}
 use lib.Dec.{eqb}
 use lib.ListN.{length, replicate}
+use lib.IntN.{ℤ}
+use denote.Ref.{RefT}
 use Rattle.meaning.specs.Refusals.{numberOf}
 use Rattle.meaning.specs.Refusals.Refusal.{malformedBytes, noRoom}
 use Rattle.meaning.specs.Layout.{stored, decode}
 use Rattle.meaning.specs.Reading.{Located, readAt, readText}
 use Rattle.meaning.specs.Writing.{writeText, debugText}
 use Rattle.meaning.specs.Answers.{numberGiven, bytesGiven}
+use Rattle.meaning.specs.Order.{Relation, Choice, relation, orderGiven, refusalGiven, larger}
+use Rattle.meaning.specs.Order.Choice.{first, second, neither}
 use Rattle.meaning.specs.Stream.{recordText}
 use Rattle.writing.specs.declared.Put.{Put}
 use Rattle.writing.specs.declared.Put.the-variants.{Done, NoRoom}
 use Rattle.writing.specs.Put.{putOf, placed, Puts}
 use Rattle.decimal128.specs.declared.Answer.{Answer}
 use Rattle.decimal128.specs.declared.Parsed.{Parsed}
+use Rattle.decimal128.specs.declared.Compared.{Compared}
 use Rattle.decimal128.specs.declared.Decimal128.{Decimal128}
 
 -- ---- making, and taking apart
@@ -54,6 +59,35 @@ DebugAllows bytes before r after = Puts (debugText bytes) before r after
 abbrev pub RecordAllows : List ℕ → List ℕ → Put → List ℕ → Type 0
 RecordAllows text before r after = Puts (recordText (readAt text)) before r after
 
+-- ---- comparing
+
+abbrev pub comparedAs : Relation → Compared
+comparedAs r = record { number = refusalGiven r; order = orderGiven r }
+
+-- what the bytes mean is compared, canonical or not
+abbrev pub storedRelation : List ℕ → List ℕ → Relation
+storedRelation a b = relation (decode (stored a)) (decode (stored b))
+
+abbrev pub CompareAllows : List ℕ → List ℕ → Compared → Type 0
+CompareAllows a b r = r ≡ comparedAs (storedRelation a b)
+
+-- ---- the larger of two lent texts: a slice is where it begins, a block and an offset, and its bytes
+
+abbrev pub Slice : Type 0
+Slice = (ℕ × ℕ) × List ℕ
+
+abbrev pub slice : RefT (List ℕ) → Slice
+slice r = (r .ptr, r .now)
+
+-- the first text, the second, or an empty part of the first
+abbrev pub named : Choice → RefT (List ℕ) → RefT (List ℕ) → Slice
+named first a b = slice a
+named second a b = slice b
+named neither a b = (a .ptr, [])
+
+abbrev pub LargerAllows : RefT (List ℕ) → RefT (List ℕ) → RefT (List ℕ) → Type 0
+LargerAllows a b r = slice r ≡ named (larger (a .now) (b .now)) a b
+
 -- ---- the paper's number and length of each case of `Put`
 
 abbrev pub putNumber : Put → ℕ
@@ -64,7 +98,7 @@ abbrev pub putLength : Put → ℕ
 putLength (Done n) = n
 putLength NoRoom = 0
 
--- ---- for C: the number is returned, the bytes, the place and the length go through pointers
+-- ---- for C: the number is returned, the bytes, the place, the order and the length go through pointers
 
 pub record ReadGives (text : List ℕ) (number : ℕ) (out : List ℕ) (place : ℕ) : Type 0 where
   pub is : number ≡ numberGiven (readText text)
@@ -79,3 +113,7 @@ pub record PutGives (text before : List ℕ) (number len : ℕ) (after : List �
   pub is : number ≡ putNumber (putOf text before)
   pub length : len ≡ putLength (putOf text before)
   pub buffer : after ≡ placed text before
+
+pub record CompareGives (a b : List ℕ) (number : ℕ) (order : ℤ) : Type 0 where
+  pub is : number ≡ refusalGiven (storedRelation a b)
+  pub at : order ≡ orderGiven (storedRelation a b)

@@ -3,7 +3,7 @@ use crate::Decimal128;
 use writing::Put;
 ghost use Rattle.meaning.specs.Layout.{stored, decode};
 ghost use Rattle.meaning.specs.Writing.{writeText, debugText};
-ghost use Rattle.decimal128.specs.Operations.{PutGives, ReadGives, ParseGives, putNumber, putLength};
+ghost use Rattle.decimal128.specs.Operations.{PutGives, ReadGives, ParseGives, CompareGives, LargerAllows, putNumber, putLength};
 ghost use mathlib.Core.Path.{_≡_};
 
 fn number_of(put: Put) -> u32
@@ -61,4 +61,20 @@ pub extern "C" fn decimal128_parse(bytes: &[u8], out: &mut [u8; 16]) -> u32
     let value = answer.bytes;
     *out = value;
     answer.number
+}
+
+#[no_mangle]
+pub extern "C" fn decimal128_compare(a: &[u8; 16], b: &[u8; 16], order: &mut i32) -> u32
+    ensures { λ r. ⌜ CompareGives (now (a .entry)) (now (b .entry)) r (now (order .exit)) ⌝ }
+{
+    let answer = Decimal128::from_bytes(*a).compare(Decimal128::from_bytes(*b));
+    *order = answer.order;
+    answer.number
+}
+
+#[no_mangle]
+pub extern "C" fn decimal128_larger<'a>(a: &'a [u8], b: &'a [u8], part: &mut &'a [u8])
+    ensures { λ _. ⌜ LargerAllows (a .entry) (b .entry) (now (part .exit)) ⌝ }
+{
+    *part = crate::larger(a, b);
 }

@@ -1,7 +1,10 @@
 // Decimal128: decimal text to 16 stored bytes and back. The public operations and nothing else; none asks anything of its
 // caller.
+use comparing::Relation;
 use writing::Put;
-ghost use Rattle.decimal128.specs.Operations.{FromBytesAllows, BytesAllows, ParseAllows, ReadAllows, WriteAllows, DebugAllows, RecordAllows};
+ghost use mathlib.Core.Path.{_≡_};
+ghost use Rattle.comparing.specs.Told.{told};
+ghost use Rattle.decimal128.specs.Operations.{FromBytesAllows, BytesAllows, ParseAllows, ReadAllows, WriteAllows, DebugAllows, RecordAllows, CompareAllows, LargerAllows, comparedAs};
 
 pub mod c;
 mod framing;
@@ -22,6 +25,35 @@ pub struct Answer {
 pub struct Parsed {
     pub number: u32,
     pub bytes: [u8; 16],
+}
+
+// How two stored values stand: the number of a refusal and 0, or 0 and -1, 0 or 1.
+pub struct Compared {
+    pub number: u32,
+    pub order: i32,
+}
+
+fn compared(relation: Relation) -> Compared
+    ensures { λ r. ⌜ r ≡ comparedAs (told relation) ⌝ }
+{
+    match relation {
+        Relation::Less => Compared {
+            number: 0,
+            order: -1,
+        },
+        Relation::Equal => Compared {
+            number: 0,
+            order: 0,
+        },
+        Relation::Greater => Compared {
+            number: 0,
+            order: 1,
+        },
+        Relation::Unordered => Compared {
+            number: 11,
+            order: 0,
+        },
+    }
 }
 
 impl Decimal128 {
@@ -52,6 +84,15 @@ impl Decimal128 {
         let bytes = self.bytes;
         writing::debug(bytes, buf)
     }
+
+    // The order of two values; 11, NotOrdered, with a NaN.
+    pub fn compare(self, other: Self) -> Compared
+        ensures { λ r. ⌜ CompareAllows (self .bytes) (other .bytes) r ⌝ }
+    {
+        let a = self.bytes;
+        let b = other.bytes;
+        compared(comparing::compare(layout::unpack(a), layout::unpack(b)))
+    }
 }
 
 // Text to 16 bytes; where it is refused, the place.
@@ -72,6 +113,29 @@ pub fn read(text: &[u8]) -> Answer
         number: 0,
         place: 0,
         bytes: layout::pack(value),
+    }
+}
+
+// The text whose value is greater, the first when they are equal; where either is refused or is NaN, an empty part of the first.
+pub fn larger<'a>(a: &'a [u8], b: &'a [u8]) -> &'a [u8]
+    ensures { λ r. ⌜ LargerAllows (a .entry) (b .entry) r ⌝ }
+{
+    let x = reading::read(a);
+    if x.number != 0 {
+        return &a[0..0];
+    }
+    let y = reading::read(b);
+    if y.number != 0 {
+        return &a[0..0];
+    }
+    let v = x.value;
+    let w = y.value;
+    let relation = comparing::compare(v, w);
+    match relation {
+        Relation::Less => b,
+        Relation::Equal => a,
+        Relation::Greater => a,
+        Relation::Unordered => &a[0..0],
     }
 }
 

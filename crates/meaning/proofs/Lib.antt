@@ -12,3 +12,4 @@ pub mod Bytes
 pub mod Places
 pub mod Refused
 pub mod Records
+pub mod Ordering

@@ -1,0 +1,150 @@
+-- Laws of signed numbers, and of the relation of two values by their kinds and signs.
+use mathlib.Core.Path.{_≡_, refl, sym, ap, _∙_}
+use mathlib.Core.Logic.{⊎-elim}
+use mathlib.Core.Bool.{Bool, true, false, not, Bool·beq, true≢false}
+use Prim.Native.Nat.{ℕ, _+_, _-_, _*_, _^_, _≤_, _<_, min}
+use native.Mathlib.Nat.{add-zero, zero-add, zero-mul, le-mul-of-pos-right}
+use native.Mathlib.Omega.{arith}
+use Rattle.meaning.specs.Decimal.{InRange}
+use Rattle.meaning.specs.Decimal.Decimal.{finite}
+use Rattle.meaning.specs.Order.{compared, signed, scaled, relation}
+use Rattle.meaning.specs.Order.Relation.{less, equal, greater, unordered}
+use Rattle.meaning.proofs.Numbers.{le-or, pow-pos}
+use Rattle.meaning.proofs.Ordering.{shown, turns-round}
+use Rattle.meaning.specs.Promises.{turned}
+use Rattle.limbs.specs.Value.{value}
+use Rattle.limbs.specs.Order.{order}
+use Rattle.limbs.specs.declared.Order.{Order}
+use Rattle.layout.specs.Unpacked.{meantBy, meant}
+use Rattle.layout.specs.declared.Unpacked.{Unpacked}
+use Rattle.layout.specs.declared.Kind.{Kind}
+use Rattle.layout.specs.declared.Kind.the-variants.{Nan, Infinity, Finite}
+use Rattle.comparing.specs.Told.{toldOf, turnedOf, sideOf, isFinite, isNan}
+use Rattle.comparing.proofs.Counts.{order-turned, told-order}
+
+-- ---- two signs
+
+pub agree : (s t : Bool) → Bool·beq s t ≡ true → t ≡ s
+agree true true e = refl
+agree true false e = absurd (true≢false (sym e))
+agree false true e = absurd (true≢false (sym e))
+agree false false e = refl
+
+pub differ : (s t : Bool) → Bool·beq s t ≡ false → t ≡ not s
+differ true true e = absurd (true≢false e)
+differ true false e = refl
+differ false true e = refl
+differ false false e = absurd (true≢false e)
+
+-- ---- signed numbers
+
+pub plain : (m n : ℕ) → signed false m false n ≡ compared m n
+unfolding signed
+plain m n = rw (add-zero, add-zero)
+
+pub negatives : (m n : ℕ) → signed true m true n ≡ compared n m
+unfolding signed
+negatives m n = rw (zero-add, zero-add)
+
+pub zeros : (s : Bool) → signed s 0 (not s) 0 ≡ equal
+unfolding signed
+zeros true = shown 0 0 equal refl
+zeros false = shown 0 0 equal refl
+
+pub apart : (s : Bool) (m n : ℕ) → 1 ≤ m + n → signed s m (not s) n ≡ sideOf s
+unfolding signed
+apart true m n h = shown 0 (n + m) less (omega arith)
+apart false m n h = shown (m + n) 0 greater h
+
+-- where the signs differ a scale does not matter
+apart-times : (s : Bool) (m n p q : ℕ) → 1 ≤ p → 1 ≤ q → signed s (m * p) (not s) (n * q) ≡ signed s m (not s) n
+apart-times s m n p q g h =
+    ⊎-elim
+    (λ l. apart s (m * p) (n * q) (omega (arith, le-mul-of-pos-right m g, le-mul-of-pos-right n h)) ∙ sym (apart s m n l))
+    (λ l. let y : m ≡ 0 = omega arith in let z : n ≡ 0 = omega arith in rw (y, z, zero-mul, zero-mul))
+    (le-or 1 (m + n))
+
+-- ---- two finite values, by their signs
+module _ (s t : Bool) (x a e c : ℕ) where
+  pub opposites : t ≡ not s → signed s a (not s) c ≡ relation (finite s x a) (finite t e c)
+  unfolding relation
+  opposites d =
+      rw d (sym (apart-times s a c (10 ^ (x - min x e)) (10 ^ (e - min e x)) (pow-pos (x - min x e)) (pow-pos (e - min e x))))
+
+  -- o and p are orders that were computed
+  pub both-negative : {o p : Order} → s ≡ true → t ≡ s → p ≡ turnedOf o → o ≡ order (scaled a x e) (scaled c e x) → toldOf p ≡ relation (finite s x a) (finite t e c)
+  unfolding relation
+  both-negative d k f g =
+      ap toldOf (f ∙ ap turnedOf g ∙ order-turned (scaled a x e) (scaled c e x))
+      ∙ told-order (scaled c e x) (scaled a x e)
+      ∙ rw (k, d) (sym (negatives (scaled a x e) (scaled c e x)))
+
+  pub none-negative : {o : Order} → s ≡ false → t ≡ s → o ≡ order (scaled a x e) (scaled c e x) → toldOf o ≡ relation (finite s x a) (finite t e c)
+  unfolding relation
+  none-negative d k g =
+      ap toldOf g ∙ told-order (scaled a x e) (scaled c e x) ∙ rw (k, d) (sym (plain (scaled a x e) (scaled c e x)))
+
+-- ---- two values, by their kinds
+
+pub finite-kind : (k : Kind) → isFinite k ≡ true → k ≡ Finite
+finite-kind (Nan q) e = absurd (true≢false (sym e))
+finite-kind Infinity e = absurd (true≢false (sym e))
+finite-kind Finite e = refl
+
+pub infinite-kind : (k : Kind) → isNan k ≡ false → isFinite k ≡ false → k ≡ Infinity
+infinite-kind (Nan q) d e = absurd (true≢false d)
+infinite-kind Infinity d e = refl
+infinite-kind Finite d e = absurd (true≢false e)
+
+pub first-nan : (u v : Unpacked) → isNan (u .kind) ≡ true → relation (meant u) (meant v) ≡ unordered
+unfolding meant relation
+first-nan u v d = first (u .kind) d
+  where
+    first : (k : Kind) → isNan k ≡ true → relation (meantBy k (u .negative) (u .exponent) (value (u .coefficient))) (meant v) ≡ unordered
+    first (Nan q) d = refl
+    first Infinity d = absurd (true≢false (sym d))
+    first Finite d = absurd (true≢false (sym d))
+
+pub second-nan : (u v : Unpacked) → isNan (v .kind) ≡ true → relation (meant u) (meant v) ≡ unordered
+second-nan u v d = turns-round (meant v) (meant u) ∙ ap turned (first-nan v u d)
+
+one-zero : (s t : Bool) → signed s 1 t 0 ≡ sideOf s
+unfolding signed
+one-zero true true = shown _ _ less (omega arith)
+one-zero true false = shown _ _ less (omega arith)
+one-zero false true = shown _ _ greater (omega arith)
+one-zero false false = shown _ _ greater (omega arith)
+
+turned-side : (s : Bool) → turned (sideOf s) ≡ sideOf (not s)
+turned-side true = refl
+turned-side false = refl
+
+pub from-infinity : (u v : Unpacked) → u .kind ≡ Infinity → isFinite (v .kind) ≡ true → relation (meant u) (meant v) ≡ sideOf (u .negative)
+unfolding meant relation
+from-infinity u v p q = rw (p, finite-kind (v .kind) q) (one-zero (u .negative) (v .negative))
+
+pub to-infinity : (u v : Unpacked) → isFinite (u .kind) ≡ true → v .kind ≡ Infinity → relation (meant u) (meant v) ≡ sideOf (not (v .negative))
+to-infinity u v p q =
+    turns-round (meant v) (meant u) ∙ ap turned (from-infinity v u q p) ∙ turned-side (v .negative)
+
+infinities : (u v : Unpacked) → u .kind ≡ Infinity → v .kind ≡ Infinity → relation (meant u) (meant v) ≡ signed (u .negative) 1 (v .negative) 1
+unfolding meant relation
+infinities u v p q = rw (p, q)
+
+pub one-infinity : (u v : Unpacked) → u .kind ≡ Infinity → v .kind ≡ Infinity → v .negative ≡ u .negative → relation (meant u) (meant v) ≡ equal
+one-infinity u v p q d = infinities u v p q ∙ rw d (alike (u .negative))
+  where
+    alike : (s : Bool) → signed s 1 s 1 ≡ equal
+    alike true = negatives 1 1 ∙ shown 1 1 equal refl
+    alike false = plain 1 1 ∙ shown 1 1 equal refl
+
+pub two-infinities : (u v : Unpacked) → u .kind ≡ Infinity → v .kind ≡ Infinity → v .negative ≡ not (u .negative) → relation (meant u) (meant v) ≡ sideOf (u .negative)
+two-infinities u v p q d = infinities u v p q ∙ rw d (apart (u .negative) 1 1 (omega arith))
+
+pub of-finite : (u v : Unpacked) → isFinite (u .kind) ≡ true → isFinite (v .kind) ≡ true → relation (finite (u .negative) (u .exponent) (value (u .coefficient))) (finite (v .negative) (v .exponent) (value (v .coefficient))) ≡ relation (meant u) (meant v)
+unfolding meant
+of-finite u v p q = rw (finite-kind (u .kind) p, finite-kind (v .kind) q)
+
+pub finite-ranged : (u : Unpacked) → isFinite (u .kind) ≡ true → InRange (meant u) → value (u .coefficient) < 10 ^ 34
+unfolding meant
+finite-ranged u f h = (rw (finite-kind (u .kind) f) at h) .1

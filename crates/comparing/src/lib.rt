@@ -1,0 +1,247 @@
+// The order of two values. Digits are scaled only where both values have their first digit at one place, so never by more
+// than 33.
+use layout::Kind;
+use layout::Unpacked;
+use limbs::Order;
+use limbs::count;
+use limbs::powers;
+ghost use mathlib.Core.Path.{_≡_};
+ghost use mathlib.Core.Bool.{true, false, not};
+ghost use Prim.Native.Nat.{_*_, _^_, _≤_, _<_};
+ghost use lib.Dec.{eqb};
+ghost use Rattle.limbs.specs.Value.{value};
+ghost use Rattle.limbs.specs.Order.{order};
+ghost use Rattle.layout.specs.Unpacked.{meant};
+ghost use Rattle.meaning.specs.Decimal as decimal;
+ghost use Rattle.meaning.specs.Decimal.{InRange};
+ghost use Rattle.meaning.specs.Order as meaning;
+ghost use Rattle.meaning.specs.Order.{scaled, signed};
+ghost use Rattle.comparing.specs.Told.{told, toldOf, turnedOf, sideOf, isFinite, isNan};
+
+pub enum Relation {
+    Less,
+    Equal,
+    Greater,
+    Unordered,
+}
+
+// ---- magnitudes
+
+fn is_zero(c: [u32; 4]) -> bool
+    ensures { λ r. ⌜ r ≡ eqb (value c) 0 ⌝ }
+{
+    if limbs::fits_u64(c) {
+        return limbs::low(c) == 0;
+    }
+    false
+}
+
+// a·10^d against c, by their digits' counts first.
+fn far(a: [u32; 4], d: u32, c: [u32; 4]) -> Order
+    requires { ⌜ (value a < 10 ^ 34) × (value c < 10 ^ 34) ⌝ }
+    ensures { λ r. ⌜ r ≡ order (value a * 10 ^ d) (value c) ⌝ }
+{
+    if is_zero(a) {
+        return limbs::compare(a, c);
+    }
+    let m = count::digits(a) + d as usize;
+    let n = count::digits(c);
+    if m < n {
+        return Order::Less;
+    }
+    if n < m {
+        return Order::Greater;
+    }
+    limbs::compare(powers::padded(a, d as usize), c)
+}
+
+const TENS: [u32; 10] = [
+    1,
+    10,
+    100,
+    1000,
+    10000,
+    100000,
+    1000000,
+    10000000,
+    100000000,
+    1000000000,
+];
+
+// 10^d.
+fn ten(d: usize) -> u32
+    requires { ⌜ d ≤ 9 ⌝ }
+    ensures { λ r. ⌜ r ≡ 10 ^ d ⌝ }
+{
+    TENS[d]
+}
+
+// a and 10^d are of one limb each.
+fn is_short(a: [u32; 4], d: u32) -> bool
+    ensures { λ r. ⌜ (r ≡ true → (value a < 2 ^ 32) × (d ≤ 9)) ⌝ }
+{
+    if 9 < d {
+        return false;
+    }
+    if a[1] != 0 {
+        return false;
+    }
+    limbs::fits_u64(a)
+}
+
+// a·10^d.
+fn short(a: [u32; 4], d: u32) -> [u32; 4]
+    requires { ⌜ (value a < 2 ^ 32) × (d ≤ 9) ⌝ }
+    ensures { λ r. ⌜ value r ≡ value a * 10 ^ d ⌝ }
+{
+    limbs::of_u64(limbs::low(a) * ten(d as usize) as u64)
+}
+
+fn turned(o: Order) -> Order
+    ensures { λ r. ⌜ r ≡ turnedOf o ⌝ }
+{
+    match o {
+        Order::Less => Order::Greater,
+        Order::Equal => Order::Equal,
+        Order::Greater => Order::Less,
+    }
+}
+
+// a·10^x against c·10^e.
+fn magnitudes(x: u32, a: [u32; 4], e: u32, c: [u32; 4]) -> Order
+    requires { ⌜ (value a < 10 ^ 34) × (value c < 10 ^ 34) ⌝ }
+    ensures { λ r. ⌜ r ≡ order (scaled (value a) x e) (scaled (value c) e x) ⌝ }
+{
+    if x == e {
+        return limbs::compare(a, c);
+    }
+    if x < e {
+        let d = e - x;
+        if is_short(c, d) {
+            return limbs::compare(a, short(c, d));
+        }
+        return turned(far(c, d, a));
+    }
+    let d = x - e;
+    if is_short(a, d) {
+        return limbs::compare(short(a, d), c);
+    }
+    far(a, d, c)
+}
+
+// ---- signs
+
+fn relation_of(o: Order) -> Relation
+    ensures { λ r. ⌜ told r ≡ toldOf o ⌝ }
+{
+    match o {
+        Order::Less => Relation::Less,
+        Order::Equal => Relation::Equal,
+        Order::Greater => Relation::Greater,
+    }
+}
+
+// A negative value stands below, any other above.
+fn side(negative: bool) -> Relation
+    ensures { λ r. ⌜ told r ≡ sideOf negative ⌝ }
+{
+    if negative {
+        Relation::Less
+    } else {
+        Relation::Greater
+    }
+}
+
+// ±a against ∓c; a zero has no sign.
+fn opposite(negative: bool, a: [u32; 4], c: [u32; 4]) -> Relation
+    ensures { λ r. ⌜ told r ≡ signed negative (value a) (not negative) (value c) ⌝ }
+{
+    if !is_zero(a) {
+        return side(negative);
+    }
+    if !is_zero(c) {
+        return side(negative);
+    }
+    Relation::Equal
+}
+
+// Two finite values.
+fn finite(u: Unpacked, v: Unpacked) -> Relation
+    requires { ⌜ (value (u .coefficient) < 10 ^ 34) × (value (v .coefficient) < 10 ^ 34) ⌝ }
+    ensures { λ r. ⌜ told r ≡ meaning.relation (decimal.Decimal.finite (u .negative) (u .exponent) (value (u .coefficient))) (decimal.Decimal.finite (v .negative) (v .exponent) (value (v .coefficient))) ⌝ }
+{
+    let a = u.coefficient;
+    let c = v.coefficient;
+    let negative = u.negative;
+    if negative != v.negative {
+        return opposite(negative, a, c);
+    }
+    let o = magnitudes(u.exponent, a, v.exponent, c);
+    if negative {
+        return relation_of(turned(o));
+    }
+    relation_of(o)
+}
+
+// ---- infinities and NaN
+
+fn is_finite(kind: Kind) -> bool
+    ensures { λ r. ⌜ r ≡ isFinite kind ⌝ }
+{
+    match kind {
+        Kind::Nan { signalling: _ } => false,
+        Kind::Infinity => false,
+        Kind::Finite => true,
+    }
+}
+
+fn is_nan(kind: Kind) -> bool
+    ensures { λ r. ⌜ r ≡ isNan kind ⌝ }
+{
+    match kind {
+        Kind::Nan { signalling: _ } => true,
+        Kind::Infinity => false,
+        Kind::Finite => false,
+    }
+}
+
+// Two values that are not both finite.
+fn special(u: Unpacked, v: Unpacked) -> Relation
+    requires { ⌜ (isFinite (u .kind) ≡ true → isFinite (v .kind) ≡ false) ⌝ }
+    ensures { λ r. ⌜ told r ≡ meaning.relation (meant u) (meant v) ⌝ }
+{
+    let first = u.kind;
+    let second = v.kind;
+    if is_nan(first) {
+        return Relation::Unordered;
+    }
+    if is_nan(second) {
+        return Relation::Unordered;
+    }
+    if is_finite(first) {
+        return side(!v.negative);
+    }
+    if is_finite(second) {
+        return side(u.negative);
+    }
+    if u.negative == v.negative {
+        return Relation::Equal;
+    }
+    side(u.negative)
+}
+
+// The relation of two values: IEEE 754-2008, 5.11.
+pub fn compare(u: Unpacked, v: Unpacked) -> Relation
+    requires { ⌜ InRange (meant u) × InRange (meant v) ⌝ }
+    ensures { λ r. ⌜ told r ≡ meaning.relation (meant u) (meant v) ⌝ }
+{
+    let first = u.kind;
+    let second = v.kind;
+    if !is_finite(first) {
+        return special(u, v);
+    }
+    if !is_finite(second) {
+        return special(u, v);
+    }
+    finite(u, v)
+}
