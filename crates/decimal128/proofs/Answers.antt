@@ -24,11 +24,11 @@ use Rattle.decimal128.specs.declared.Answer.{Answer}
 use Rattle.decimal128.specs.Operations.{answered}
 use Rattle.decimal128.specs.Record.{dashes}
 
--- a number above 10 names LineTooLong
-large : (n : ℕ) → 10 < n → numberOf (named n) ≡ 10
+-- a number above 10 names NotOrdered
+large : (n : ℕ) → 10 < n → numberOf (named n) ≡ 11
 unfolding named numberOf
 large n g =
-    simp (ne-eqb n 1 (λ e. omega arith), ne-eqb n 2 (λ e. omega arith), ne-eqb n 3 (λ e. omega arith), ne-eqb n 4 (λ e. omega arith), ne-eqb n 5 (λ e. omega arith), ne-eqb n 6 (λ e. omega arith), ne-eqb n 7 (λ e. omega arith), ne-eqb n 8 (λ e. omega arith), ne-eqb n 9 (λ e. omega arith))
+    simp (ne-eqb n 1 (λ e. omega arith), ne-eqb n 2 (λ e. omega arith), ne-eqb n 3 (λ e. omega arith), ne-eqb n 4 (λ e. omega arith), ne-eqb n 5 (λ e. omega arith), ne-eqb n 6 (λ e. omega arith), ne-eqb n 7 (λ e. omega arith), ne-eqb n 8 (λ e. omega arith), ne-eqb n 9 (λ e. omega arith), ne-eqb n 10 (λ e. omega arith))
 
 -- a number that names a refusal of 1 to 7 is the refusal's
 named-back : (n : ℕ) → (n ≡ 0 → ⊥) → numberOf (named n) ≤ 7 → numberOf (named n) ≡ n
@@ -43,7 +43,7 @@ module _ (s : List ℕ) (r : reading.Answer) (tells : told r ≡ readAt s) where
 
   -- a refusal
   module _ (some : r .number ≡ 0 → ⊥) where
-    refused-is : readText s ≡ refused (named (r .number))
+    pub refused-is : readText s ≡ refused (named (r .number))
     unfolding told
     refused-is = ap (λ (a : Located). a .reading) (sym tells) ∙ simp (ne-eqb (r .number) 0 some)
 
@@ -71,7 +71,7 @@ module _ (s : List ℕ) (r : reading.Answer) (tells : told r ≡ readAt s) where
 
   -- a value
   module _ (none : r .number ≡ 0) where
-    value-is : readText s ≡ accepted (meant (r .value))
+    pub value-is : readText s ≡ accepted (meant (r .value))
     unfolding told
     value-is = ap (λ (a : Located). a .reading) (sym tells) ∙ simp (eq-eqb (r .number) 0 none)
 

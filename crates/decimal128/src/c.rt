@@ -68,7 +68,8 @@ pub extern "C" fn decimal128_compare(a: &[u8; 16], b: &[u8; 16], order: &mut i32
     ensures { λ r. ⌜ CompareGives (now (a .entry)) (now (b .entry)) r (now (order .exit)) ⌝ }
 {
     let answer = Decimal128::from_bytes(*a).compare(Decimal128::from_bytes(*b));
-    *order = answer.order;
+    let value = answer.order;
+    *order = value;
     answer.number
 }
 

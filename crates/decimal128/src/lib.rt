@@ -3,8 +3,9 @@
 use comparing::Relation;
 use writing::Put;
 ghost use mathlib.Core.Path.{_≡_};
+ghost use Rattle.meaning.specs.Order.{Choice};
 ghost use Rattle.comparing.specs.Told.{told};
-ghost use Rattle.decimal128.specs.Operations.{FromBytesAllows, BytesAllows, ParseAllows, ReadAllows, WriteAllows, DebugAllows, RecordAllows, CompareAllows, LargerAllows, comparedAs};
+ghost use Rattle.decimal128.specs.Operations.{FromBytesAllows, BytesAllows, ParseAllows, ReadAllows, WriteAllows, DebugAllows, RecordAllows, CompareAllows, LargerAllows, comparedAs, slice, named};
 
 pub mod c;
 mod framing;
@@ -33,7 +34,7 @@ pub struct Compared {
     pub order: i32,
 }
 
-fn compared(relation: Relation) -> Compared
+fn compared_as(relation: Relation) -> Compared
     ensures { λ r. ⌜ r ≡ comparedAs (told relation) ⌝ }
 {
     match relation {
@@ -91,7 +92,7 @@ impl Decimal128 {
     {
         let a = self.bytes;
         let b = other.bytes;
-        compared(comparing::compare(layout::unpack(a), layout::unpack(b)))
+        compared_as(comparing::compare(layout::unpack(a), layout::unpack(b)))
     }
 }
 
@@ -116,17 +117,23 @@ pub fn read(text: &[u8]) -> Answer
     }
 }
 
+fn empty_part(text: &[u8]) -> &[u8]
+    ensures { λ r. ⌜ slice r ≡ named Choice.neither (text .entry) (text .entry) ⌝ }
+{
+    &text[0..0]
+}
+
 // The text whose value is greater, the first when they are equal; where either is refused or is NaN, an empty part of the first.
 pub fn larger<'a>(a: &'a [u8], b: &'a [u8]) -> &'a [u8]
     ensures { λ r. ⌜ LargerAllows (a .entry) (b .entry) r ⌝ }
 {
     let x = reading::read(a);
     if x.number != 0 {
-        return &a[0..0];
+        return empty_part(a);
     }
     let y = reading::read(b);
     if y.number != 0 {
-        return &a[0..0];
+        return empty_part(a);
     }
     let v = x.value;
     let w = y.value;
@@ -135,7 +142,7 @@ pub fn larger<'a>(a: &'a [u8], b: &'a [u8]) -> &'a [u8]
         Relation::Less => b,
         Relation::Equal => a,
         Relation::Greater => a,
-        Relation::Unordered => &a[0..0],
+        Relation::Unordered => empty_part(a),
     }
 }
 
