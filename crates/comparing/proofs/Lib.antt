@@ -1,3 +1,3 @@
-pub mod Counts
+pub mod Orders
 pub mod Signs
 pub mod Tens

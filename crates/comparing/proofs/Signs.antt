@@ -7,9 +7,11 @@ use native.Mathlib.Nat.{add-zero, zero-add, zero-mul, le-mul-of-pos-right}
 use native.Mathlib.Omega.{arith}
 use Rattle.meaning.specs.Decimal.{InRange}
 use Rattle.meaning.specs.Decimal.Decimal.{finite}
+use Rattle.meaning.specs.Layout.{decode}
 use Rattle.meaning.specs.Order.{compared, signed, scaled, relation}
 use Rattle.meaning.specs.Order.Relation.{less, equal, greater, unordered}
 use Rattle.meaning.proofs.Numbers.{le-or, pow-pos}
+use Rattle.meaning.proofs.Fields.{decodes-in-range}
 use Rattle.meaning.proofs.Ordering.{shown, turns-round}
 use Rattle.meaning.specs.Promises.{turned}
 use Rattle.limbs.specs.Value.{value}
@@ -20,7 +22,7 @@ use Rattle.layout.specs.declared.Unpacked.{Unpacked}
 use Rattle.layout.specs.declared.Kind.{Kind}
 use Rattle.layout.specs.declared.Kind.the-variants.{Nan, Infinity, Finite}
 use Rattle.comparing.specs.Told.{toldOf, turnedOf, sideOf, isFinite, isNan}
-use Rattle.comparing.proofs.Counts.{order-turned, told-order}
+use Rattle.comparing.proofs.Orders.{order-turned, told-order}
 
 -- ---- two signs
 
@@ -145,6 +147,13 @@ pub of-finite : (u v : Unpacked) → isFinite (u .kind) ≡ true → isFinite (v
 unfolding meant
 of-finite u v p q = rw (finite-kind (u .kind) p, finite-kind (v .kind) q)
 
-pub finite-ranged : (u : Unpacked) → isFinite (u .kind) ≡ true → InRange (meant u) → value (u .coefficient) < 10 ^ 34
+-- ---- unpacked values
+
+pub unpacked : (u v : Unpacked) (m n : ℕ) → meant u ≡ decode m → meant v ≡ decode n → relation (meant u) (meant v) ≡ relation (decode m) (decode n)
+unpacked u v m n p q = rw (p, q)
+
+pub finite-ranged : (u : Unpacked) (n : ℕ) → meant u ≡ decode n → isFinite (u .kind) ≡ true → value (u .coefficient) < 10 ^ 34
 unfolding meant
-finite-ranged u f h = (rw (finite-kind (u .kind) f) at h) .1
+finite-ranged u n e f =
+    let h : InRange (meant u) = rw e (decodes-in-range n) in
+    (rw (finite-kind (u .kind) f) at h) .1

@@ -1,10 +1,7 @@
-// The order of two values. Digits are scaled only where both values have their first digit at one place, so never by more
-// than 33.
+// The order of two values.
 use layout::Kind;
 use layout::Unpacked;
 use limbs::Order;
-use limbs::count;
-use limbs::powers;
 ghost use mathlib.Core.Path.{_≡_};
 ghost use mathlib.Core.Bool.{true, false, not};
 ghost use Prim.Native.Nat.{_*_, _^_, _≤_, _<_};
@@ -13,7 +10,7 @@ ghost use Rattle.limbs.specs.Value.{value};
 ghost use Rattle.limbs.specs.Order.{order};
 ghost use Rattle.layout.specs.Unpacked.{meant};
 ghost use Rattle.meaning.specs.Decimal as decimal;
-ghost use Rattle.meaning.specs.Decimal.{InRange};
+ghost use Rattle.meaning.specs.Layout.{stored, decode};
 ghost use Rattle.meaning.specs.Order as meaning;
 ghost use Rattle.meaning.specs.Order.{scaled, signed};
 ghost use Rattle.comparing.specs.Told.{told, toldOf, turnedOf, sideOf, isFinite, isNan};
@@ -36,25 +33,6 @@ fn is_zero(c: [u32; 4]) -> bool
     false
 }
 
-// a·10^d against c, by their digits' counts first.
-fn far(a: [u32; 4], d: u32, c: [u32; 4]) -> Order
-    requires { ⌜ (value a < 10 ^ 34) × (value c < 10 ^ 34) ⌝ }
-    ensures { λ r. ⌜ r ≡ order (value a * 10 ^ d) (value c) ⌝ }
-{
-    if is_zero(a) {
-        return limbs::compare(a, c);
-    }
-    let m = count::digits(a) + d as usize;
-    let n = count::digits(c);
-    if m < n {
-        return Order::Less;
-    }
-    if n < m {
-        return Order::Greater;
-    }
-    limbs::compare(powers::padded(a, d as usize), c)
-}
-
 const TENS: [u32; 10] = [
     1,
     10,
@@ -74,6 +52,36 @@ fn ten(d: usize) -> u32
     ensures { λ r. ⌜ r ≡ 10 ^ d ⌝ }
 {
     TENS[d]
+}
+
+// a·10^d against c, nine digits at a time. What four limbs do not hold is above c, and so is any a·10^34 but zero.
+fn raised(a: [u32; 4], d: u32, c: [u32; 4]) -> Order
+    requires { ⌜ value c < 10 ^ 34 ⌝ }
+    ensures { λ r. ⌜ r ≡ order (value a * 10 ^ d) (value c) ⌝ }
+{
+    if is_zero(a) {
+        return limbs::compare(a, c);
+    }
+    if 33 < d {
+        return Order::Greater;
+    }
+    let mut n = a;
+    let mut left = d;
+    while 9 < left {
+        let m = limbs::multiply(n, 1000000000, 0);
+        if m.carry != 0 {
+            return Order::Greater;
+        }
+        let low = m.low;
+        n = low;
+        left -= 9;
+    }
+    let m = limbs::multiply(n, ten(left as usize), 0);
+    if m.carry != 0 {
+        return Order::Greater;
+    }
+    let low = m.low;
+    limbs::compare(low, c)
 }
 
 // a and 10^d are of one limb each.
@@ -120,13 +128,13 @@ fn magnitudes(x: u32, a: [u32; 4], e: u32, c: [u32; 4]) -> Order
         if is_short(c, d) {
             return limbs::compare(a, short(c, d));
         }
-        return turned(far(c, d, a));
+        return turned(raised(c, d, a));
     }
     let d = x - e;
     if is_short(a, d) {
         return limbs::compare(short(a, d), c);
     }
-    far(a, d, c)
+    raised(a, d, c)
 }
 
 // ---- signs
@@ -205,9 +213,9 @@ fn is_nan(kind: Kind) -> bool
     }
 }
 
-// Two values that are not both finite.
+// A NaN or an infinity against any value.
 fn special(u: Unpacked, v: Unpacked) -> Relation
-    requires { ⌜ (isFinite (u .kind) ≡ true → isFinite (v .kind) ≡ false) ⌝ }
+    requires { ⌜ isFinite (u .kind) ≡ false ⌝ }
     ensures { λ r. ⌜ told r ≡ meaning.relation (meant u) (meant v) ⌝ }
 {
     let first = u.kind;
@@ -218,9 +226,6 @@ fn special(u: Unpacked, v: Unpacked) -> Relation
     if is_nan(second) {
         return Relation::Unordered;
     }
-    if is_finite(first) {
-        return side(!v.negative);
-    }
     if is_finite(second) {
         return side(u.negative);
     }
@@ -230,18 +235,32 @@ fn special(u: Unpacked, v: Unpacked) -> Relation
     side(u.negative)
 }
 
-// The relation of two values: IEEE 754-2008, 5.11.
-pub fn compare(u: Unpacked, v: Unpacked) -> Relation
-    requires { ⌜ InRange (meant u) × InRange (meant v) ⌝ }
+// A finite value against a NaN or an infinity.
+fn beside(u: Unpacked, v: Unpacked) -> Relation
+    requires { ⌜ (isFinite (u .kind) ≡ true) × (isFinite (v .kind) ≡ false) ⌝ }
     ensures { λ r. ⌜ told r ≡ meaning.relation (meant u) (meant v) ⌝ }
 {
-    let first = u.kind;
-    let second = v.kind;
-    if !is_finite(first) {
-        return special(u, v);
+    let kind = v.kind;
+    if is_nan(kind) {
+        return Relation::Unordered;
     }
+    side(!v.negative)
+}
+
+// The relation of two stored values: IEEE 754-2008, 5.11. The second is unpacked where the first is known to be finite or
+// not, so that no kind is kept for later.
+pub fn compare(a: &[u8; 16], b: &[u8; 16]) -> Relation
+    ensures { λ r. ⌜ told r ≡ meaning.relation (decode (stored (now (a .entry)))) (decode (stored (now (b .entry)))) ⌝ }
+{
+    let u = layout::unpack(*a);
+    let first = u.kind;
+    if !is_finite(first) {
+        return special(u, layout::unpack(*b));
+    }
+    let v = layout::unpack(*b);
+    let second = v.kind;
     if !is_finite(second) {
-        return special(u, v);
+        return beside(u, v);
     }
     finite(u, v)
 }

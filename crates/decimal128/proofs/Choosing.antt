@@ -1,33 +1,67 @@
--- Which of two lent texts is handed back, from what the calls say; and the slice that it is.
-use mathlib.Core.Path.{_≡_, sym, ap}
+-- Which of two lent texts is handed back, from what the calls say.
+use mathlib.Core.Path.{_≡_, refl, sym, ap, _∙_}
 use mathlib.Core.List.{List}
 use Prim.Native.Nat.{ℕ}
+use native.Mathlib.Omega.{arith}
 use denote.Ref.{RefT}
-use Rattle.meaning.specs.Reading.{readAt}
-use Rattle.meaning.specs.Order.{Choice, relation, choiceOf, larger}
+use Rattle.meaning.specs.Decimal.{Decimal, InRange}
+use Rattle.meaning.specs.Layout.{stored, bytesOf, decode, encode}
+use Rattle.meaning.specs.Reading.{Reading, readText}
+use Rattle.meaning.specs.Reading.Reading.{refused, accepted}
+use Rattle.meaning.specs.Answers.{numberGiven, bytesGiven}
+use Rattle.meaning.specs.Order.{Choice, choiceOf, chosen, larger}
 use Rattle.meaning.specs.Order.Choice.{neither}
-use Rattle.layout.specs.Unpacked.{meant}
-use Rattle.reading.specs.declared.answer.Answer as reading
-use Rattle.reading.specs.Told.{told}
+use Rattle.meaning.proofs.Accepted.{reads-in-range}
+use Rattle.meaning.proofs.Bytes.{a-number-is-sixteen-bytes}
+use Rattle.meaning.proofs.Fields.{encodes-below, decodes-what-was-encoded}
+use Rattle.reading.proofs.Names.{number-some}
 use Rattle.comparing.specs.declared.Relation as comparing
-use Rattle.comparing.specs.Told as orders
-use Rattle.decimal128.specs.Operations.{named}
-use Rattle.decimal128.proofs.Answers.{refused-is, value-is}
+use Rattle.comparing.specs.Told.{told}
+use Rattle.decimal128.specs.declared.Answer.{Answer}
+use Rattle.decimal128.specs.Operations.{ReadAllows, storedRelation, named}
 
--- x and y are what the reader gives
-pub first-refused : (a b : List ℕ) (x : reading.Answer) → told x ≡ readAt a → (x .number ≡ 0 → ⊥) → larger a b ≡ neither
+-- ---- the readings, by their numbers
+
+chosen-first : (r q : Reading) → (numberGiven r ≡ 0 → ⊥) → chosen r q ≡ neither
+unfolding numberGiven
+chosen-first (refused r) q n = refl
+chosen-first (accepted v) q n = absurd (n refl)
+
+chosen-second : (r q : Reading) → (numberGiven q ≡ 0 → ⊥) → chosen r q ≡ neither
+unfolding numberGiven
+chosen-second (refused r) q n = refl
+chosen-second (accepted v) (refused r) n = refl
+chosen-second (accepted v) (accepted w) n = absurd (n refl)
+
+-- what was packed is unpacked as it was
+back : (v : Decimal) → InRange v → decode (stored (bytesOf 16 (encode v))) ≡ v
+back v h = ap decode (a-number-is-sixteen-bytes (encode v) (encodes-below v h) .1) ∙ decodes-what-was-encoded v h
+
+abbrev Ranged : Reading → Type 0
+Ranged r = (v : Decimal) → r ≡ accepted v → InRange v
+
+chosen-both : (r q : Reading) → Ranged r → Ranged q → numberGiven r ≡ 0 → numberGiven q ≡ 0 → chosen r q ≡ choiceOf (storedRelation (bytesGiven r) (bytesGiven q))
+unfolding numberGiven bytesGiven
+chosen-both (refused r) q g h e f = absurd (omega (arith, number-some r))
+chosen-both (accepted v) (refused q) g h e f = absurd (omega (arith, number-some q))
+chosen-both (accepted v) (accepted w) g h e f = rw (back v (g v refl), back w (h w refl))
+
+-- ---- what the calls say of two texts
+
+pub first-refused : (a b : List ℕ) (x : Answer) → ReadAllows a x → (x .number ≡ 0 → ⊥) → larger a b ≡ neither
 unfolding larger
-first-refused a b x p n = rw (refused-is a x p n)
+first-refused a b x p n = chosen-first (readText a) (readText b) (λ z. n (ap (λ (v : Answer). v .number) p ∙ z))
 
-module _ (a b : List ℕ) (x y : reading.Answer) (p : told x ≡ readAt a) (q : told y ≡ readAt b) where
-  pub second-refused : x .number ≡ 0 → (y .number ≡ 0 → ⊥) → larger a b ≡ neither
-  unfolding larger
-  second-refused e n = rw (value-is a x p e, refused-is b y q n)
+pub second-refused : (a b : List ℕ) (y : Answer) → ReadAllows b y → (y .number ≡ 0 → ⊥) → larger a b ≡ neither
+unfolding larger
+second-refused a b y q n = chosen-second (readText a) (readText b) (λ z. n (ap (λ (v : Answer). v .number) q ∙ z))
 
-  -- r is what the comparison gives, s what it was found to be
-  pub by-relation : {r s : comparing.Relation} → r ≡ s → x .number ≡ 0 → y .number ≡ 0 → orders.told r ≡ relation (meant (x .value)) (meant (y .value)) → larger a b ≡ choiceOf (orders.told s)
-  unfolding larger
-  by-relation d e f g = rw (value-is a x p e, value-is b y q f, ← d, g)
+-- r is what the comparison gives, s what it was found to be
+pub by-relation : (a b : List ℕ) (x y : Answer) {r s : comparing.Relation} → ReadAllows a x → ReadAllows b y → r ≡ s → x .number ≡ 0 → y .number ≡ 0 → told r ≡ storedRelation (x .bytes) (y .bytes) → larger a b ≡ choiceOf (told s)
+unfolding larger
+by-relation a b x y p q d e f g =
+    chosen-both (readText a) (readText b) (reads-in-range a) (reads-in-range b) (rw p at e) (rw q at f)
+    ∙ ap choiceOf (sym (rw (p, q, d) at g))
 
 -- the slice of a choice that is known
 pub picks : {c : Choice} (a b : RefT (List ℕ)) → larger (a .now) (b .now) ≡ c → named c a b ≡ named (larger (a .now) (b .now)) a b

@@ -1,9 +1,10 @@
-// The public operations for C and Rust: include/decimal128.h says what each gives and what it leaves alone.
+// The public operations for C and Rust: include/decimal128.h says what each gives and what it leaves alone. That of `larger` is
+// in a library of its own: a second caller of the reader beside `decimal128_read` would cost every reading.
 use crate::Decimal128;
 use writing::Put;
 ghost use Rattle.meaning.specs.Layout.{stored, decode};
 ghost use Rattle.meaning.specs.Writing.{writeText, debugText};
-ghost use Rattle.decimal128.specs.Operations.{PutGives, ReadGives, ParseGives, CompareGives, LargerAllows, putNumber, putLength};
+ghost use Rattle.decimal128.specs.Operations.{PutGives, ReadGives, ParseGives, CompareGives, putNumber, putLength};
 ghost use mathlib.Core.Path.{_≡_};
 
 fn number_of(put: Put) -> u32
@@ -67,15 +68,8 @@ pub extern "C" fn decimal128_parse(bytes: &[u8], out: &mut [u8; 16]) -> u32
 pub extern "C" fn decimal128_compare(a: &[u8; 16], b: &[u8; 16], order: &mut i32) -> u32
     ensures { λ r. ⌜ CompareGives (now (a .entry)) (now (b .entry)) r (now (order .exit)) ⌝ }
 {
-    let answer = Decimal128::from_bytes(*a).compare(Decimal128::from_bytes(*b));
+    let answer = crate::compared_as(comparing::compare(a, b));
     let value = answer.order;
     *order = value;
     answer.number
-}
-
-#[no_mangle]
-pub extern "C" fn decimal128_larger<'a>(a: &'a [u8], b: &'a [u8], part: &mut &'a [u8])
-    ensures { λ _. ⌜ LargerAllows (a .entry) (b .entry) (now (part .exit)) ⌝ }
-{
-    *part = crate::larger(a, b);
 }

@@ -92,7 +92,7 @@ impl Decimal128 {
     {
         let a = self.bytes;
         let b = other.bytes;
-        compared_as(comparing::compare(layout::unpack(a), layout::unpack(b)))
+        compared_as(comparing::compare(&a, &b))
     }
 }
 
@@ -127,17 +127,17 @@ fn empty_part(text: &[u8]) -> &[u8]
 pub fn larger<'a>(a: &'a [u8], b: &'a [u8]) -> &'a [u8]
     ensures { λ r. ⌜ LargerAllows (a .entry) (b .entry) r ⌝ }
 {
-    let x = reading::read(a);
+    let x = read(a);
     if x.number != 0 {
         return empty_part(a);
     }
-    let y = reading::read(b);
+    let y = read(b);
     if y.number != 0 {
         return empty_part(a);
     }
-    let v = x.value;
-    let w = y.value;
-    let relation = comparing::compare(v, w);
+    let v = x.bytes;
+    let w = y.bytes;
+    let relation = comparing::compare(&v, &w);
     match relation {
         Relation::Less => b,
         Relation::Equal => a,

@@ -3,7 +3,7 @@ use mathlib.Core.Path.{_≡_, refl, sym, ap, _∙_, subst}
 use mathlib.Core.Logic.{_⊎_, inl, inr, ⊎-elim}
 use mathlib.Core.Bool.{Bool, true, false, cond, true≢false}
 use Prim.Native.Nat.{ℕ, zero, suc, _+_, _-_, _*_, _/_, _%_, _^_, _≤_, _<_}
-use native.Mathlib.Nat.{add-mul, mul-assoc, add-zero, div-one, mod-lt, div-add-mod'}
+use native.Mathlib.Nat.{add-mul, mul-assoc, mul-le-mul-right, add-zero, div-one, mod-lt, div-add-mod'}
 use native.Mathlib.Omega.{arith}
 use lib.Dec.{eqb, ltb, lit<, lit≤}
 use lib.Pow.{field, mod-mod-pow, mod-pow-add, shr-shr, shr-lt, pow-pos}
@@ -196,6 +196,24 @@ decodes-what-was-encoded (nan false false) h = refl
 decodes-what-was-encoded (infinity true) h = refl
 decodes-what-was-encoded (infinity false) h = refl
 decodes-what-was-encoded (finite s e c) h = finite-back s e c (h .0) (h .1)
+
+-- ---- what is encoded has 128 bits
+
+below-twice : (B h c : ℕ) → h < 2 ^ 15 → c < B → h * B + c < 2 ^ 15 * B
+below-twice B h c l g = omega (arith, mul-le-mul-right B l)
+
+pub encodes-below : (v : Decimal) → InRange v → encode v < 2 ^ 128
+unfolding encode
+encodes-below (nan true true) h = lit< tt
+encodes-below (nan true false) h = lit< tt
+encodes-below (nan false true) h = lit< tt
+encodes-below (nan false false) h = lit< tt
+encodes-below (infinity true) h = lit< tt
+encodes-below (infinity false) h = lit< tt
+encodes-below (finite s e c) h =
+    let b = small-bit s in
+    let top : bitOf s * 2 ^ 14 + e < 2 ^ 15 = omega (arith, b, h .0) in
+    rw (encodes-finite s e c) (below-twice (2 ^ 113) (bitOf s * 2 ^ 14 + e) c top (below-113 c (h .1)))
 
 -- ---- which numbers come back as they were
 

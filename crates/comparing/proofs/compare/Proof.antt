@@ -1,44 +1,49 @@
 use borrow.Author.Needs.{needs}
 use borrow.Author.Tests.{not-true, not-false}
-use mathlib.Core.Bool.{true≢false}
 use mathlib.Core.Path.{sym, _∙_}
-use Rattle.comparing.proofs.Signs.{of-finite, finite-ranged}
+use Rattle.comparing.proofs.Signs.{of-finite, unpacked, finite-ranged}
 use Rattle.comparing.proofs.compare.Statement.{statement}
 use Rattle.comparing.proofs.compare.Tie as tie
 
 special-requires : tie.Need-special-requires
-special-requires c κs = λ e. absurd (true≢false (sym e ∙ sym (c .before .is-finite .ensures) ∙ not-true _ (c .if1 .taken)))
+special-requires c κs = sym (c .before .before .before .is-finite .ensures) ∙ not-true _ (c .before .before .if1 .taken)
 
 returns : tie.Need-returns
-returns c = c .special .ensures
+returns c = c .special .ensures ∙ unpacked _ _ _ _ (c .before .before .before .before .before .unpack .ensures) (c .before .unpack2 .ensures)
 
-special-requires-2 : tie.Need-special-requires-2
-special-requires-2 c κs = λ e. sym (c .before .is-finite2 .ensures) ∙ not-true _ (c .if2 .taken)
+beside-requires : tie.Need-beside-requires
+beside-requires c κs = (
+  sym (c .before .before .before .before .before .is-finite .ensures) ∙ not-false _ (c .before .before .before .before .if1 .left),
+  sym (c .before .is-finite2 .ensures) ∙ not-true _ (c .if2 .taken),
+)
 
 returns-2 : tie.Need-returns-2
-returns-2 c = c .special2 .ensures
+returns-2 c = c .beside .ensures ∙ unpacked _ _ _ _ (c .before .before .before .before .before .before .before .unpack .ensures) (c .before .before .before .unpack3 .ensures)
 
 finite-requires : tie.Need-finite-requires
 finite-requires c κs =
-    let f = sym (c .before .before .before .is-finite .ensures) ∙ not-false _ (c .before .before .if1 .left) in
+    let f = sym (c .before .before .before .before .before .is-finite .ensures) ∙ not-false _ (c .before .before .before .before .if1 .left) in
     let g = sym (c .before .is-finite2 .ensures) ∙ not-false _ (c .if2 .left) in
-    (finite-ranged _ f (c .before .before .before .before .pre .0), finite-ranged _ g (c .before .before .before .before .pre .1))
+    (finite-ranged _ _ (c .before .before .before .before .before .before .unpack .ensures) f, finite-ranged _ _ (c .before .before .unpack3 .ensures) g)
 
 returns-3 : tie.Need-returns-3
 returns-3 c =
-    let f = sym (c .before .before .before .before .is-finite .ensures) ∙ not-false _ (c .before .before .before .if1 .left) in
+    let f = sym (c .before .before .before .before .before .before .is-finite .ensures) ∙ not-false _ (c .before .before .before .before .before .if1 .left) in
     let g = sym (c .before .before .is-finite2 .ensures) ∙ not-false _ (c .before .if2 .left) in
-    c .finite .ensures ∙ of-finite _ _ f g
+    c .finite .ensures ∙ of-finite _ _ f g ∙ unpacked _ _ _ _ (c .before .before .before .before .before .before .before .unpack .ensures) (c .before .before .before .unpack3 .ensures)
 
 pub compare-spec : {M : Type 1} → statement M
 compare-spec =
     tie.close
     (tie.spec
     (λ c κs. search needs)
+    (λ c κs. search needs)
+    (λ c κs. search needs)
     special-requires
     returns
     (λ c κs. search needs)
-    special-requires-2
+    (λ c κs. search needs)
+    beside-requires
     returns-2
     finite-requires
     returns-3)

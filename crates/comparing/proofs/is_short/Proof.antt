@@ -1,7 +1,7 @@
 use borrow.Author.Needs.{needs}
 use mathlib.Core.Bool.{true≢false}
 use mathlib.Core.Path.{sym}
-use Rattle.comparing.proofs.Counts.{lowest-limb}
+use Rattle.comparing.proofs.Orders.{lowest-limb}
 use Rattle.comparing.proofs.is_short.Statement.{statement}
 use Rattle.comparing.proofs.is_short.Tie as tie
 

@@ -1,6 +1,6 @@
 use borrow.Author.Needs.{needs}
 use Rattle.limbs.specs.Value.{value}
-use Rattle.comparing.proofs.Counts.{low-zero, long-zero}
+use Rattle.comparing.proofs.Orders.{low-zero, long-zero}
 use Rattle.comparing.proofs.is_zero.Statement.{statement}
 use Rattle.comparing.proofs.is_zero.Tie as tie
 

@@ -3,7 +3,7 @@ use borrow.Author.Tests.{not-true, not-false}
 use mathlib.Core.Path.{sym, _∙_}
 use native.Mathlib.Omega.{arith}
 use Rattle.limbs.specs.Value.{value}
-use Rattle.comparing.proofs.Counts.{is-none, is-some}
+use Rattle.comparing.proofs.Orders.{is-none, is-some}
 use Rattle.comparing.proofs.Signs.{zeros, apart}
 use Rattle.comparing.proofs.opposite.Statement.{statement}
 use Rattle.comparing.proofs.opposite.Tie as tie

@@ -6,39 +6,30 @@ use Rattle.decimal128.proofs.larger.Tie as tie
 
 returns : tie.Need-returns
 returns c =
-    let r = c .before .before .before .read in
-    c .empty-part .ensures ∙ picks _ _ (first-refused _ _ (r .result) (r .ensures .tells) (c .before .if1 .taken))
+    let x = c .before .before .before .read in
+    c .empty-part .ensures ∙ picks _ _ (first-refused _ _ (x .result) (x .ensures) (c .before .if1 .taken))
 
 returns-2 : tie.Need-returns-2
 returns-2 c =
-    let x = c .before .before .before .before .before .before .read in
     let y = c .before .before .before .read2 in
-    c .empty-part2 .ensures
-    ∙ picks _ _ (second-refused _ _ (x .result) (y .result) (x .ensures .tells) (y .ensures .tells) (c .before .before .before .before .if1 .left) (c .before .if2 .taken))
-
-compare-requires : tie.Need-compare-requires
-compare-requires c κs = (c .before .before .before .before .before .before .before .read .ensures .ranged, c .before .before .before .before .read2 .ensures .ranged)
+    c .empty-part2 .ensures ∙ picks _ _ (second-refused _ _ (y .result) (y .ensures) (c .before .if2 .taken))
 
 returns-3 : tie.Need-returns-3
 returns-3 c =
-    picks _ _
-    (by-relation _ _ (c .before .before .before .before .before .before .before .before .before .before .read .result) (c .before .before .before .before .before .before .before .read2 .result) (c .before .before .before .before .before .before .before .before .before .before .read .ensures .tells) (c .before .before .before .before .before .before .before .read2 .ensures .tells) (c .enum-told .given .1) (c .before .before .before .before .before .before .before .before .if1 .left) (c .before .before .before .before .before .if2 .left) (c .before .before .compare .ensures))
+    picks _ _ (by-relation _ _ (c .before .before .before .before .before .before .before .before .before .before .before .before .read .result) (c .before .before .before .before .before .before .before .before .before .read2 .result) (c .before .before .before .before .before .before .before .before .before .before .before .before .read .ensures) (c .before .before .before .before .before .before .before .before .before .read2 .ensures) (c .enum-told .given .1) (c .before .before .before .before .before .before .before .before .before .before .if1 .left) (c .before .before .before .before .before .before .before .if2 .left) (c .before .before .compare .ensures))
 
 returns-4 : tie.Need-returns-4
 returns-4 c =
-    picks _ _
-    (by-relation _ _ (c .before .before .before .before .before .before .before .before .before .before .read .result) (c .before .before .before .before .before .before .before .read2 .result) (c .before .before .before .before .before .before .before .before .before .before .read .ensures .tells) (c .before .before .before .before .before .before .before .read2 .ensures .tells) (c .enum-told2 .given .1) (c .before .before .before .before .before .before .before .before .if1 .left) (c .before .before .before .before .before .if2 .left) (c .before .before .compare .ensures))
+    picks _ _ (by-relation _ _ (c .before .before .before .before .before .before .before .before .before .before .before .before .read .result) (c .before .before .before .before .before .before .before .before .before .read2 .result) (c .before .before .before .before .before .before .before .before .before .before .before .before .read .ensures) (c .before .before .before .before .before .before .before .before .before .read2 .ensures) (c .enum-told2 .given .1) (c .before .before .before .before .before .before .before .before .before .before .if1 .left) (c .before .before .before .before .before .before .before .if2 .left) (c .before .before .compare .ensures))
 
 returns-5 : tie.Need-returns-5
 returns-5 c =
-    picks _ _
-    (by-relation _ _ (c .before .before .before .before .before .before .before .before .before .before .read .result) (c .before .before .before .before .before .before .before .read2 .result) (c .before .before .before .before .before .before .before .before .before .before .read .ensures .tells) (c .before .before .before .before .before .before .before .read2 .ensures .tells) (c .enum-told3 .given .1) (c .before .before .before .before .before .before .before .before .if1 .left) (c .before .before .before .before .before .if2 .left) (c .before .before .compare .ensures))
+    picks _ _ (by-relation _ _ (c .before .before .before .before .before .before .before .before .before .before .before .before .read .result) (c .before .before .before .before .before .before .before .before .before .read2 .result) (c .before .before .before .before .before .before .before .before .before .before .before .before .read .ensures) (c .before .before .before .before .before .before .before .before .before .read2 .ensures) (c .enum-told3 .given .1) (c .before .before .before .before .before .before .before .before .before .before .if1 .left) (c .before .before .before .before .before .before .before .if2 .left) (c .before .before .compare .ensures))
 
 returns-6 : tie.Need-returns-6
 returns-6 c =
     c .empty-part3 .ensures
-    ∙ picks _ _
-    (by-relation _ _ (c .before .before .before .before .before .before .before .before .before .before .before .read .result) (c .before .before .before .before .before .before .before .before .read2 .result) (c .before .before .before .before .before .before .before .before .before .before .before .read .ensures .tells) (c .before .before .before .before .before .before .before .before .read2 .ensures .tells) (c .before .enum-told4 .given .1) (c .before .before .before .before .before .before .before .before .before .if1 .left) (c .before .before .before .before .before .before .if2 .left) (c .before .before .before .compare .ensures))
+    ∙ picks _ _ (by-relation _ _ (c .before .before .before .before .before .before .before .before .before .before .before .before .before .read .result) (c .before .before .before .before .before .before .before .before .before .before .read2 .result) (c .before .before .before .before .before .before .before .before .before .before .before .before .before .read .ensures) (c .before .before .before .before .before .before .before .before .before .before .read2 .ensures) (c .before .enum-told4 .given .1) (c .before .before .before .before .before .before .before .before .before .before .before .if1 .left) (c .before .before .before .before .before .before .before .before .if2 .left) (c .before .before .before .compare .ensures))
 
 pub larger-spec : {M : Type 1} → statement M
 larger-spec =
@@ -50,7 +41,7 @@ larger-spec =
     (λ c κs. search needs)
     (λ c κs. search needs)
     returns-2
-    compare-requires
+    (λ c κs. search needs)
     (λ c. search needs)
     (λ c. search needs)
     (λ c. search needs)

@@ -1,25 +1,22 @@
--- Laws of the order of two numbers, and of how many digits they have.
-use mathlib.Core.Path.{_≡_, refl, sym, ap, subst, _∙_}
-use mathlib.Core.Logic.{⊎-elim}
+-- Laws of the order of two numbers, and of scaling one of them.
+use mathlib.Core.Path.{_≡_, sym, ap, _∙_}
 use mathlib.Core.Bool.{Bool, true, false}
 use mathlib.Core.List.{List}
-use Prim.Native.Nat.{ℕ, zero, suc, _+_, _-_, _*_, _%_, _^_, _≤_, _<_, min}
-use native.Mathlib.Nat.{mul-one, mul-le-mul-right, lt-of-lt-of-le, le-trans}
+use Prim.Native.Nat.{ℕ, _+_, _-_, _*_, _%_, _^_, _≤_, _<_, min}
+use native.Mathlib.Nat.{add-zero, mul-zero, zero-mul, mul-one, one-mul, mul-assoc, mul-le-mul-right, le-mul-of-pos-right, lt-of-lt-of-le, le-trans}
 use native.Mathlib.Omega.{arith}
-use lib.Dec.{eqb, ltb}
+use lib.Dec.{eqb, ltb, lit≤}
 use mir.Syntax.{w32}
 use mir.Val.{Fits}
 use lib.Pow.{pow-add}
 use lib.ListN.{length, getD}
 use borrow.Author.Tests.{lt-ltb, le-ltb, ltb-true, ltb-false, eqb-true, eqb-false, ne-eqb}
 use Rattle.meaning.specs.Order.{compared, scaled}
-use Rattle.meaning.specs.Reading.{number}
-use Rattle.meaning.specs.Writing.{decimal}
-use Rattle.meaning.proofs.Numbers.{by-test, le-or, pow-pos, pow-le, number-lt}
-use Rattle.meaning.proofs.Digits.{decimal-all, decimal-number, decimal-some, few}
+use Rattle.meaning.proofs.Numbers.{by-test, pow-pos, pow-le}
 use Rattle.limbs.specs.Value.{value}
 use Rattle.limbs.specs.Order.{order}
 use Rattle.limbs.specs.declared.Order.{Order}
+use Rattle.limbs.specs.declared.Carried.{Carried}
 use Rattle.limbs.specs.declared.Order.the-variants.{Less, Equal, Greater}
 use Rattle.limbs.proofs.Laws.{value-four}
 use Rattle.comparing.specs.Told.{toldOf, turnedOf}
@@ -69,45 +66,42 @@ pub told-order : (m n : ℕ) → toldOf (order m n) ≡ compared m n
 unfolding compared
 told-order m n = by-test (ltb m n) (λ p. rw p) (λ p. by-test (ltb n m) (λ q. rw (p, q)) (λ q. rw (p, q)))
 
--- ---- a number and the count of its digits
+-- ---- a·10^d against c
+module _ (a d c : ℕ) where
+  pub none-raised : a ≡ 0 → order a c ≡ order (a * 10 ^ d) c
+  none-raised z = rw (z, zero-mul)
 
-module _ (n : ℕ) (h : n < 10 ^ 34) where
-  below-count : n < 10 ^ length (decimal n)
-  below-count = subst (λ (m : ℕ). m < 10 ^ length (decimal n)) (decimal-number n h) (number-lt (decimal n) (decimal-all n h))
+  pub out-of-reach : c < 10 ^ 34 → 1 ≤ a → 33 < d → Greater ≡ order (a * 10 ^ d) c
+  out-of-reach g n l =
+      sym (order-greater _ _ (lt-of-lt-of-le g (le-trans (pow-le l) (rw one-mul at (mul-le-mul-right (10 ^ d) n)))))
 
-  count-above : (j : ℕ) → 1 ≤ n → suc j ≡ length (decimal n) → 10 ^ j ≤ n
-  count-above zero g e = g
-  count-above (suc j) g e = ⊎-elim (λ l. l) (λ l. absurd (omega (arith, few n j l))) (le-or (10 ^ suc j) n)
+-- nine digits at a time, n·10^k being left of it
+module _ (a d c n k : ℕ) (i : n * 10 ^ k ≡ a * 10 ^ d) where
+  nine : 9 < k → n * 1000000000 * 10 ^ (k - 9) ≡ n * 10 ^ k
+  nine h = let e : 9 + (k - 9) ≡ k = omega arith in rw (mul-assoc, ← pow-add 10 9 (k - 9), e)
 
-  pub at-most-34 : length (decimal n) ≤ 34
-  at-most-34 = few n 33 h
+  pub nine-less : {l : ℕ} → 9 < k → l ≡ n * 1000000000 → l * 10 ^ (k - 9) ≡ a * 10 ^ d
+  nine-less h e = rw e (nine h ∙ i)
 
-times-less : {m n : ℕ} (k : ℕ) → m < n → 1 ≤ k → m * k < n * k
-times-less k h g = omega (arith, mul-le-mul-right k h)
+  pub over-nine : 9 < k → c < n * 1000000000 → Greater ≡ order (a * 10 ^ d) c
+  over-nine h g =
+      sym (order-greater _ _ (lt-of-lt-of-le g (rw (← i, ← nine h) (le-mul-of-pos-right (n * 1000000000) (pow-pos (k - 9))))))
 
--- ---- a·10^d against c, by the counts j and k of their digits
-module _ (a d c : ℕ) (f : a < 10 ^ 34) (g : c < 10 ^ 34) {j k : ℕ} (p : j ≡ length (decimal a)) (q : k ≡ length (decimal c)) where
-  below-raised : (n : ℕ) → j + d ≤ n → a * 10 ^ d < 10 ^ n
-  below-raised n l =
-      let e : length (decimal a) + d ≤ n = omega arith in
-      lt-of-lt-of-le (times-less (10 ^ d) (below-count a f) (pow-pos d)) (rw (← pow-add 10 (length (decimal a)) d) (pow-le e))
+  pub over-last : c < n * 10 ^ k → Greater ≡ order (a * 10 ^ d) c
+  over-last g = sym (order-greater (a * 10 ^ d) c (rw (← i) g))
 
-  above-raised : (i : ℕ) → 1 ≤ a → suc i ≡ j → 10 ^ (i + d) ≤ a * 10 ^ d
-  above-raised i n e = rw (pow-add 10 i d) (mul-le-mul-right (10 ^ d) (count-above a f i n (e ∙ p)))
+  pub last-raised : {l : ℕ} → l ≡ n * 10 ^ k → order l c ≡ order (a * 10 ^ d) c
+  last-raised e = rw (e, i)
 
-  pub fewer : j + d < k → order (a * 10 ^ d) c ≡ Less
-  fewer l =
-      let n : 1 ≤ c = ⊎-elim (λ h. h) (λ h. absurd (omega (arith, decimal-some a f, few c 0 (omega arith)))) (le-or 1 c) in
-      order-less _ _ (lt-of-lt-of-le (below-raised (k - 1) (omega arith)) (count-above c g (k - 1) n (omega arith)))
+-- what four limbs hold of a product p, and what they carry, B being 2^128
+beyond : (B c l k p : ℕ) → l + B * k ≡ p + 0 → 1 ≤ k → c < B → c < p
+beyond B c l k p e n h = omega (arith, le-mul-of-pos-right B n)
 
-  pub more : 1 ≤ a → k < j + d → order (a * 10 ^ d) c ≡ Greater
-  more n l =
-      let s = decimal-some a f in
-      let h : length (decimal c) ≤ j - 1 + d = omega arith in
-      order-greater _ _ (lt-of-lt-of-le (below-count c g) (le-trans (pow-le h) (above-raised (j - 1) n (omega arith))))
+pub carries : (m : Carried) (p c : ℕ) → value (m .low) + 2 ^ 128 * m .carry ≡ p + 0 → (m .carry ≡ 0 → ⊥) → c < 10 ^ 34 → c < p
+carries m p c e n h = beyond (2 ^ 128) c (value (m .low)) (m .carry) p e (omega arith) (lt-of-lt-of-le h (lit≤ tt))
 
-  pub padded-fits : j + d ≤ k → (d ≤ 34) × (a * 10 ^ d < 10 ^ 34)
-  padded-fits l = let h = at-most-34 c g in (omega arith, below-raised 34 (omega arith))
+pub held : (m : Carried) (p : ℕ) → value (m .low) + 2 ^ 128 * m .carry ≡ p + 0 → m .carry ≡ 0 → value (m .low) ≡ p
+held m p e z = rw (z, mul-zero, add-zero, add-zero) at e
 
 -- ---- a·10^x against c·10^e
 module _ (a x c e : ℕ) where
