@@ -61,7 +61,9 @@ struct decimal128_part {
 
 /* Of two texts, gives the one whose value is greater, and the first when they are equal by value. *part is then that text
  * itself, as it was lent: {a, alen} or {b, blen}. Where either text is refused or is NaN, *part is {a, 0}, an empty part of the
- * first; no accepted text is empty, so a len of 0 says just that. What *part holds before is not read. */
+ * first; no accepted text is empty, so a len of 0 says just that. What *part holds before is not read.
+ *
+ * It is in a library of its own, liblarger.a: its copy of the reader would slow decimal128_read in the same library. */
 void decimal128_larger(const uint8_t *a, size_t alen, const uint8_t *b, size_t blen, struct decimal128_part *part);
 
 #ifdef __cplusplus
