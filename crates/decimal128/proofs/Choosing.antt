@@ -1,6 +1,7 @@
--- Which of two lent texts is handed back, from what the calls say.
+-- Which of two lent texts is handed back, from what the calls say, and that it is one of three slices.
 use mathlib.Core.Path.{_≡_, refl, sym, ap, _∙_}
-use mathlib.Core.List.{List}
+use mathlib.Core.Logic.{_⊎_, inl, inr}
+use mathlib.Core.List.{List, []}
 use Prim.Native.Nat.{ℕ}
 use native.Mathlib.Omega.{arith}
 use denote.Ref.{RefT}
@@ -10,7 +11,7 @@ use Rattle.meaning.specs.Reading.{Reading, readText}
 use Rattle.meaning.specs.Reading.Reading.{refused, accepted}
 use Rattle.meaning.specs.Answers.{numberGiven, bytesGiven}
 use Rattle.meaning.specs.Order.{Choice, choiceOf, chosen, larger}
-use Rattle.meaning.specs.Order.Choice.{neither}
+use Rattle.meaning.specs.Order.Choice.{first, second, neither}
 use Rattle.meaning.proofs.Accepted.{reads-in-range}
 use Rattle.meaning.proofs.Bytes.{a-number-is-sixteen-bytes}
 use Rattle.meaning.proofs.Fields.{encodes-below, decodes-what-was-encoded}
@@ -18,7 +19,7 @@ use Rattle.reading.proofs.Names.{number-some}
 use Rattle.comparing.specs.declared.Relation as comparing
 use Rattle.comparing.specs.Told.{told}
 use Rattle.decimal128.specs.declared.Answer.{Answer}
-use Rattle.decimal128.specs.Operations.{ReadAllows, storedRelation, named}
+use Rattle.decimal128.specs.Operations.{ReadAllows, storedRelation, slice, named, OneOfThreeSlices}
 
 -- ---- the readings, by their numbers
 
@@ -66,3 +67,11 @@ by-relation a b x y p q d e f g =
 -- the slice of a choice that is known
 pub picks : {c : Choice} (a b : RefT (List ℕ)) → larger (a .now) (b .now) ≡ c → named c a b ≡ named (larger (a .now) (b .now)) a b
 picks a b e = ap (λ (c : Choice). named c a b) (sym e)
+
+pub one-of-three-slices : OneOfThreeSlices
+one-of-three-slices a b r k = go (larger (a .now) (b .now)) k
+  where
+    go : (c : Choice) → slice r ≡ named c a b → (slice r ≡ slice a) ⊎ ((slice r ≡ slice b) ⊎ (slice r ≡ (a .ptr, [])))
+    go first e = inl e
+    go second e = inr (inl e)
+    go neither e = inr (inr e)

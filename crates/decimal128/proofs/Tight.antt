@@ -2,12 +2,15 @@
 use mathlib.Core.Path.{_≡_, sym, _∙_}
 use mathlib.Core.List.{List}
 use Prim.Native.Nat.{ℕ}
+use lib.IntN.{ℤ}
+use denote.Ref.{RefT}
 use Rattle.writing.specs.declared.Put.{Put}
 use Rattle.writing.specs.Put.{Puts}
 use Rattle.decimal128.specs.declared.Answer.{Answer}
 use Rattle.decimal128.specs.declared.Parsed.{Parsed}
+use Rattle.decimal128.specs.declared.Compared.{Compared}
 use Rattle.decimal128.specs.declared.Decimal128.{Decimal128}
-use Rattle.decimal128.specs.Operations.{FromBytesAllows, BytesAllows, ParseAllows, ReadAllows, WriteAllows, DebugAllows, RecordAllows, ReadGives, ParseGives, PutGives}
+use Rattle.decimal128.specs.Operations.{FromBytesAllows, BytesAllows, ParseAllows, ReadAllows, WriteAllows, DebugAllows, RecordAllows, CompareAllows, LargerAllows, slice, ReadGives, ParseGives, PutGives, CompareGives}
 
 -- ---- one result
 
@@ -22,6 +25,13 @@ parse-is-tight s r q e f = e ∙ sym f
 
 pub read-is-tight : (text : List ℕ) (r q : Answer) → ReadAllows text r → ReadAllows text q → r ≡ q
 read-is-tight text r q e f = e ∙ sym f
+
+pub compare-is-tight : (a b : List ℕ) (r q : Compared) → CompareAllows a b r → CompareAllows a b q → r ≡ q
+compare-is-tight a b r q e f = e ∙ sym f
+
+-- one slice: where it begins, and its bytes
+pub larger-is-tight : (a b r q : RefT (List ℕ)) → LargerAllows a b r → LargerAllows a b q → slice r ≡ slice q
+larger-is-tight a b r q e f = e ∙ sym f
 
 -- ---- a result and a buffer
 
@@ -49,3 +59,6 @@ c-parse-is-tight s r q a z k l = (k .is ∙ sym (l .is), k .bytes ∙ sym (l .by
 -- decimal128_write and decimal128_debug: text is what they put
 pub c-put-is-tight : (text before : List ℕ) (r q m n : ℕ) (a z : List ℕ) → PutGives text before r m a → PutGives text before q n z → (r ≡ q) × (m ≡ n) × (a ≡ z)
 c-put-is-tight text before r q m n a z k l = (k .is ∙ sym (l .is), k .length ∙ sym (l .length), k .buffer ∙ sym (l .buffer))
+
+pub c-compare-is-tight : (a b : List ℕ) (r q : ℕ) (i j : ℤ) → CompareGives a b r i → CompareGives a b q j → (r ≡ q) × (i ≡ j)
+c-compare-is-tight a b r q i j k l = (k .is ∙ sym (l .is), k .at ∙ sym (l .at))

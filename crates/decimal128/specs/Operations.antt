@@ -1,6 +1,7 @@
 -- What each public operation allows for an input: its result, and what stands in the lent buffer afterwards.
 use Prim.Native.Nat.{ℕ}
 use mathlib.Core.Path.{_≡_}
+use mathlib.Core.Logic.{_⊎_}
 use mathlib.Core.Bool.{cond}
 use mathlib.Core.List.{List, []}
 use lib.Dec.{eqb}
@@ -87,6 +88,11 @@ named neither a b = (a .ptr, [])
 
 abbrev pub LargerAllows : RefT (List ℕ) → RefT (List ℕ) → RefT (List ℕ) → Type 0
 LargerAllows a b r = slice r ≡ named (larger (a .now) (b .now)) a b
+
+abbrev pub OneOfThreeSlices : Type 0
+OneOfThreeSlices =
+    (a b r : RefT (List ℕ)) → LargerAllows a b r →
+    (slice r ≡ slice a) ⊎ ((slice r ≡ slice b) ⊎ (slice r ≡ (a .ptr, [])))
 
 -- ---- the paper's number and length of each case of `Put`
 

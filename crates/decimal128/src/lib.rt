@@ -34,6 +34,11 @@ pub struct Compared {
     pub order: i32,
 }
 
+// 11, NotOrdered, and the order that stands beside it.
+const NOT_ORDERED: u32 = 11;
+
+const NO_ORDER: i32 = 0;
+
 fn compared_as(relation: Relation) -> Compared
     ensures { λ r. ⌜ r ≡ comparedAs (told relation) ⌝ }
 {
@@ -51,8 +56,8 @@ fn compared_as(relation: Relation) -> Compared
             order: 1,
         },
         Relation::Unordered => Compared {
-            number: 11,
-            order: 0,
+            number: NOT_ORDERED,
+            order: NO_ORDER,
         },
     }
 }

@@ -8,14 +8,15 @@ use native.Mathlib.Omega.{arith}
 use lib.Dec.{ltb}
 use lib.Pow.{pow-add}
 use borrow.Author.Tests.{ltb-true, ltb-false, lt-ltb, le-ltb}
+use Rattle.meaning.specs.Refusals.{numberOf}
 use Rattle.meaning.specs.Decimal.{Decimal}
 use Rattle.meaning.specs.Decimal.Decimal.{nan, infinity, finite}
 use Rattle.meaning.specs.Reading.{Reading, readText}
 use Rattle.meaning.specs.Reading.Reading.{refused, accepted}
-use Rattle.meaning.specs.Order.{Relation, compared, above, below, signed, scaled, relation, orderGiven, choiceOf, chosen, larger}
+use Rattle.meaning.specs.Order.{Relation, compared, above, below, signed, scaled, relation, orderGiven, refusalGiven, choiceOf, chosen, larger}
 use Rattle.meaning.specs.Order.Relation.{less, equal, greater, unordered}
 use Rattle.meaning.specs.Order.Choice.{first, second, neither}
-use Rattle.meaning.specs.Promises.{NotNan, OrderedUnlessNan, OneOfThree, turned, TurnsRound, AtMost, LessIsTransitive, AtMostIsTransitive, EqualsCompareAlike, EqualIsSame, Counts, NoneIsGreater, NeitherUnlessBothCount}
+use Rattle.meaning.specs.Promises.{NotNan, OrderedUnlessNan, RefusedWithANan, OneOfThree, turned, TurnsRound, AtMost, LessIsTransitive, AtMostIsTransitive, EqualsCompareAlike, EqualIsSame, Counts, NoneIsGreater, NeitherUnlessBothCount}
 use Rattle.meaning.proofs.Numbers.{by-test, pow-pos}
 
 -- ---- two whole numbers
@@ -128,6 +129,20 @@ ordered-unless-nan (infinity s) (finite t e c) = (λ f. (tt, tt), λ p. told _ _
 ordered-unless-nan (finite s x a) (nan t q) = (λ f. absurd (f refl), λ p. absurd (p .1))
 ordered-unless-nan (finite s x a) (infinity t) = (λ f. (tt, tt), λ p. told _ _ unordered)
 ordered-unless-nan (finite s x a) (finite t e c) = (λ f. (tt, tt), λ p. told _ _ unordered)
+
+unrefused : (r : Relation) → (r ≡ unordered → ⊥) → refusalGiven r ≡ 0
+unfolding refusalGiven
+unrefused less n = refl
+unrefused equal n = refl
+unrefused greater n = refl
+unrefused unordered n = absurd (n refl)
+
+pub refused-with-a-nan : RefusedWithANan
+unfolding refusalGiven numberOf
+refused-with-a-nan v w = (
+  λ e. ordered-unless-nan v w .0 (λ u. omega (arith, rw u at e)),
+  λ p. unrefused (relation v w) (ordered-unless-nan v w .1 p),
+)
 
 -- what is less or equal is no NaN
 no-nans : (v w : Decimal) → AtMost v w → NotNan v × NotNan w

@@ -20,7 +20,7 @@ use Rattle.meaning.specs.Answers.{numberGiven, bytesGiven}
 use Rattle.meaning.specs.Stream.{lineRecord}
 use Rattle.meaning.specs.Rows.{Row, rows, rowOf}
 use Rattle.meaning.specs.Grammar.{Sign, FiniteText, Grammatical, Word, SameValue, Storable, Kept, signText, negative, textOf, wholeOf}
-use Rattle.meaning.specs.Order.{Relation, Choice, relation, orderGiven, larger}
+use Rattle.meaning.specs.Order.{Relation, Choice, relation, orderGiven, refusalGiven, larger}
 use Rattle.meaning.specs.Order.Relation.{less, equal, greater, unordered}
 use Rattle.meaning.specs.Order.Choice.{first, second, neither}
 
@@ -159,9 +159,13 @@ NotNan (nan s q) = ⊥
 NotNan (infinity s) = Unit {0}
 NotNan (finite s e c) = Unit {0}
 
--- with a NaN unordered, otherwise one of the other three
+-- unordered exactly with a NaN
 abbrev pub OrderedUnlessNan : Type 0
 OrderedUnlessNan = (v w : Decimal) → (relation v w ≡ unordered → ⊥) ↔ (NotNan v × NotNan w)
+
+-- NotOrdered exactly with a NaN
+abbrev pub RefusedWithANan : Type 0
+RefusedWithANan = (v w : Decimal) → (refusalGiven (relation v w) ≡ 0) ↔ (NotNan v × NotNan w)
 
 abbrev pub OneOfThree : Type 0
 OneOfThree = (r : Relation) → (orderGiven r ≡ negsuc 0) ⊎ ((orderGiven r ≡ pos 0) ⊎ (orderGiven r ≡ pos 1))
