@@ -1,4 +1,4 @@
--- Laws of the order of two numbers, and of scaling one of them.
+-- Laws of four limbs by their lower two, of the order of two numbers, and of scaling one of them.
 use mathlib.Core.Path.{_≡_, sym, ap, _∙_}
 use mathlib.Core.Bool.{Bool, true, false}
 use mathlib.Core.List.{List}
@@ -17,7 +17,7 @@ use Rattle.limbs.specs.Value.{value}
 use Rattle.limbs.specs.Order.{order}
 use Rattle.limbs.specs.declared.Order.{Order}
 use Rattle.limbs.specs.declared.Carried.{Carried}
-use Rattle.limbs.specs.declared.Order.the-variants.{Less, Equal, Greater}
+use Rattle.limbs.specs.declared.Order.the-variants.{Greater}
 use Rattle.limbs.proofs.Laws.{value-four}
 use Rattle.comparing.specs.Told.{toldOf, turnedOf}
 
@@ -49,9 +49,6 @@ lowest-limb a l f z e p =
     rw (value-four a l, z) (one-limb _ _ f (rw (value-four a l, z) at h))
 
 -- ---- two numbers
-
-order-less : (m n : ℕ) → m < n → order m n ≡ Less
-order-less m n h = rw (lt-ltb m n h)
 
 order-greater : (m n : ℕ) → n < m → order m n ≡ Greater
 order-greater m n h = rw (le-ltb m n (omega arith), lt-ltb n m h)

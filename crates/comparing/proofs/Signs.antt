@@ -40,11 +40,11 @@ differ false false e = absurd (true≢false e)
 
 -- ---- signed numbers
 
-pub plain : (m n : ℕ) → signed false m false n ≡ compared m n
+plain : (m n : ℕ) → signed false m false n ≡ compared m n
 unfolding signed
 plain m n = rw (add-zero, add-zero)
 
-pub negatives : (m n : ℕ) → signed true m true n ≡ compared n m
+negatives : (m n : ℕ) → signed true m true n ≡ compared n m
 unfolding signed
 negatives m n = rw (zero-add, zero-add)
 
@@ -88,7 +88,7 @@ module _ (s t : Bool) (x a e c : ℕ) where
 
 -- ---- two values, by their kinds
 
-pub finite-kind : (k : Kind) → isFinite k ≡ true → k ≡ Finite
+finite-kind : (k : Kind) → isFinite k ≡ true → k ≡ Finite
 finite-kind (Nan q) e = absurd (true≢false (sym e))
 finite-kind Infinity e = absurd (true≢false (sym e))
 finite-kind Finite e = refl

@@ -33,6 +33,7 @@ fn is_zero(c: [u32; 4]) -> bool
     false
 }
 
+// The powers of ten of one limb.
 const TENS: [u32; 10] = [
     1,
     10,
@@ -105,6 +106,7 @@ fn short(a: [u32; 4], d: u32) -> [u32; 4]
     limbs::of_u64(limbs::low(a) * ten(d as usize) as u64)
 }
 
+// The order the other way round.
 fn turned(o: Order) -> Order
     ensures { λ r. ⌜ r ≡ turnedOf o ⌝ }
 {
@@ -139,6 +141,7 @@ fn magnitudes(x: u32, a: [u32; 4], e: u32, c: [u32; 4]) -> Order
 
 // ---- signs
 
+// An order is a relation.
 fn relation_of(o: Order) -> Relation
     ensures { λ r. ⌜ told r ≡ toldOf o ⌝ }
 {

@@ -43,7 +43,7 @@ module _ (s : List ℕ) (r : reading.Answer) (tells : told r ≡ readAt s) where
 
   -- a refusal
   module _ (some : r .number ≡ 0 → ⊥) where
-    pub refused-is : readText s ≡ refused (named (r .number))
+    refused-is : readText s ≡ refused (named (r .number))
     unfolding told
     refused-is = ap (λ (a : Located). a .reading) (sym tells) ∙ simp (ne-eqb (r .number) 0 some)
 
@@ -71,7 +71,7 @@ module _ (s : List ℕ) (r : reading.Answer) (tells : told r ≡ readAt s) where
 
   -- a value
   module _ (none : r .number ≡ 0) where
-    pub value-is : readText s ≡ accepted (meant (r .value))
+    value-is : readText s ≡ accepted (meant (r .value))
     unfolding told
     value-is = ap (λ (a : Located). a .reading) (sym tells) ∙ simp (eq-eqb (r .number) 0 none)
 

@@ -20,7 +20,7 @@ use Rattle.meaning.specs.Answers.{numberGiven, bytesGiven}
 use Rattle.meaning.specs.Stream.{lineRecord}
 use Rattle.meaning.specs.Rows.{Row, rows, rowOf}
 use Rattle.meaning.specs.Grammar.{Sign, FiniteText, Grammatical, Word, SameValue, Storable, Kept, signText, negative, textOf, wholeOf}
-use Rattle.meaning.specs.Order.{Relation, Choice, relation, orderGiven, refusalGiven, larger}
+use Rattle.meaning.specs.Order.{Relation, relation, orderGiven, refusalGiven, larger}
 use Rattle.meaning.specs.Order.Relation.{less, equal, greater, unordered}
 use Rattle.meaning.specs.Order.Choice.{first, second, neither}
 

@@ -1,6 +1,5 @@
 use borrow.Author.Needs.{needs}
 use mathlib.Core.Path.{_∙_}
-use native.Mathlib.Omega.{arith}
 use Rattle.comparing.proofs.Tens.{low-is, ten-fits, one-limb-each}
 use Rattle.comparing.proofs.short.Statement.{statement}
 use Rattle.comparing.proofs.short.Tie as tie
