@@ -9,6 +9,7 @@ ghost use lib.Dec.{eqb};
 ghost use Rattle.limbs.specs.Value.{value};
 ghost use Rattle.limbs.specs.Order.{order};
 ghost use Rattle.layout.specs.Unpacked.{meant};
+ghost use Rattle.layout.specs.declared.Unpacked as declared;
 ghost use Rattle.meaning.specs.Decimal as decimal;
 ghost use Rattle.meaning.specs.Layout.{stored, decode};
 ghost use Rattle.meaning.specs.Order as meaning;
@@ -238,10 +239,10 @@ fn special(u: Unpacked, v: Unpacked) -> Relation
     side(u.negative)
 }
 
-// A finite value against a NaN or an infinity.
-fn beside(u: Unpacked, v: Unpacked) -> Relation
-    requires { ⌜ (isFinite (u .kind) ≡ true) × (isFinite (v .kind) ≡ false) ⌝ }
-    ensures { λ r. ⌜ told r ≡ meaning.relation (meant u) (meant v) ⌝ }
+// Any finite value against a NaN or an infinity.
+fn beside(v: Unpacked) -> Relation
+    requires { ⌜ isFinite (v .kind) ≡ false ⌝ }
+    ensures { λ r. ⌜ ((u : declared.Unpacked) → isFinite (u .kind) ≡ true → told r ≡ meaning.relation (meant u) (meant v)) ⌝ }
 {
     let kind = v.kind;
     if is_nan(kind) {
@@ -263,7 +264,7 @@ pub fn compare(a: &[u8; 16], b: &[u8; 16]) -> Relation
     let v = layout::unpack(*b);
     let second = v.kind;
     if !is_finite(second) {
-        return beside(u, v);
+        return beside(v);
     }
     finite(u, v)
 }

@@ -3,14 +3,13 @@ use mathlib.Core.Path.{_≡_, sym, _∙_}
 use mathlib.Core.List.{List}
 use Prim.Native.Nat.{ℕ}
 use lib.IntN.{ℤ}
-use denote.Ref.{RefT}
 use Rattle.writing.specs.declared.Put.{Put}
 use Rattle.writing.specs.Put.{Puts}
 use Rattle.decimal128.specs.declared.Answer.{Answer}
 use Rattle.decimal128.specs.declared.Parsed.{Parsed}
 use Rattle.decimal128.specs.declared.Compared.{Compared}
 use Rattle.decimal128.specs.declared.Decimal128.{Decimal128}
-use Rattle.decimal128.specs.Operations.{FromBytesAllows, BytesAllows, ParseAllows, ReadAllows, WriteAllows, DebugAllows, RecordAllows, CompareAllows, LargerAllows, slice, ReadGives, ParseGives, PutGives, CompareGives}
+use Rattle.decimal128.specs.Operations.{FromBytesAllows, BytesAllows, ParseAllows, ReadAllows, WriteAllows, DebugAllows, RecordAllows, CompareAllows, ReadGives, ParseGives, PutGives, CompareGives}
 
 -- ---- one result
 
@@ -28,10 +27,6 @@ read-is-tight text r q e f = e ∙ sym f
 
 pub compare-is-tight : (a b : List ℕ) (r q : Compared) → CompareAllows a b r → CompareAllows a b q → r ≡ q
 compare-is-tight a b r q e f = e ∙ sym f
-
--- one slice: where it begins, and its bytes
-pub larger-is-tight : (a b r q : RefT (List ℕ)) → LargerAllows a b r → LargerAllows a b q → slice r ≡ slice q
-larger-is-tight a b r q e f = e ∙ sym f
 
 -- ---- a result and a buffer
 

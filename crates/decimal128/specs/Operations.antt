@@ -1,21 +1,18 @@
 -- What each public operation allows for an input: its result, and what stands in the lent buffer afterwards.
 use Prim.Native.Nat.{ℕ}
 use mathlib.Core.Path.{_≡_}
-use mathlib.Core.Logic.{_⊎_}
 use mathlib.Core.Bool.{cond}
-use mathlib.Core.List.{List, []}
+use mathlib.Core.List.{List}
 use lib.Dec.{eqb}
 use lib.ListN.{length, replicate}
 use lib.IntN.{ℤ}
-use denote.Ref.{RefT}
 use Rattle.meaning.specs.Refusals.{numberOf}
 use Rattle.meaning.specs.Refusals.Refusal.{malformedBytes, noRoom}
 use Rattle.meaning.specs.Layout.{stored, decode}
 use Rattle.meaning.specs.Reading.{Located, readAt, readText}
 use Rattle.meaning.specs.Writing.{writeText, debugText}
 use Rattle.meaning.specs.Answers.{numberGiven, bytesGiven}
-use Rattle.meaning.specs.Order.{Relation, Choice, relation, orderGiven, refusalGiven, larger}
-use Rattle.meaning.specs.Order.Choice.{first, second, neither}
+use Rattle.meaning.specs.Order.{Relation, relation, orderGiven, refusalGiven}
 use Rattle.meaning.specs.Stream.{recordText}
 use Rattle.writing.specs.declared.Put.{Put}
 use Rattle.writing.specs.declared.Put.the-variants.{Done, NoRoom}
@@ -71,28 +68,6 @@ storedRelation a b = relation (decode (stored a)) (decode (stored b))
 
 abbrev pub CompareAllows : List ℕ → List ℕ → Compared → Type 0
 CompareAllows a b r = r ≡ comparedAs (storedRelation a b)
-
--- ---- the larger of two lent texts: a slice is where it begins, a block and an offset, and its bytes
-
-abbrev pub Slice : Type 0
-Slice = (ℕ × ℕ) × List ℕ
-
-abbrev pub slice : RefT (List ℕ) → Slice
-slice r = (r .ptr, r .now)
-
--- the first text, the second, or an empty part of the first
-abbrev pub named : Choice → RefT (List ℕ) → RefT (List ℕ) → Slice
-named first a b = slice a
-named second a b = slice b
-named neither a b = (a .ptr, [])
-
-abbrev pub LargerAllows : RefT (List ℕ) → RefT (List ℕ) → RefT (List ℕ) → Type 0
-LargerAllows a b r = slice r ≡ named (larger (a .now) (b .now)) a b
-
-abbrev pub OneOfThreeSlices : Type 0
-OneOfThreeSlices =
-    (a b r : RefT (List ℕ)) → LargerAllows a b r →
-    (slice r ≡ slice a) ⊎ ((slice r ≡ slice b) ⊎ (slice r ≡ (a .ptr, [])))
 
 -- ---- the paper's number and length of each case of `Put`
 

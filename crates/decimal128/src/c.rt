@@ -1,5 +1,5 @@
 // The public operations for C and Rust: include/decimal128.h says what each gives and what it leaves alone. That of `larger` is
-// in a library of its own: a second caller of the reader beside `decimal128_read` would cost every reading.
+// in its own crate.
 use crate::Decimal128;
 use writing::Put;
 ghost use Rattle.meaning.specs.Layout.{stored, decode};

@@ -3,9 +3,8 @@
 use comparing::Relation;
 use writing::Put;
 ghost use mathlib.Core.Path.{_≡_};
-ghost use Rattle.meaning.specs.Order.{Choice};
 ghost use Rattle.comparing.specs.Told.{told};
-ghost use Rattle.decimal128.specs.Operations.{FromBytesAllows, BytesAllows, ParseAllows, ReadAllows, WriteAllows, DebugAllows, RecordAllows, CompareAllows, LargerAllows, comparedAs, slice, named};
+ghost use Rattle.decimal128.specs.Operations.{FromBytesAllows, BytesAllows, ParseAllows, ReadAllows, WriteAllows, DebugAllows, RecordAllows, CompareAllows, comparedAs};
 
 pub mod c;
 mod framing;
@@ -119,35 +118,6 @@ pub fn read(text: &[u8]) -> Answer
         number: 0,
         place: 0,
         bytes: layout::pack(value),
-    }
-}
-
-fn empty_part(text: &[u8]) -> &[u8]
-    ensures { λ r. ⌜ slice r ≡ named Choice.neither (text .entry) (text .entry) ⌝ }
-{
-    &text[0..0]
-}
-
-// The text whose value is greater, the first when they are equal; where either is refused or is NaN, an empty part of the first.
-pub fn larger<'a>(a: &'a [u8], b: &'a [u8]) -> &'a [u8]
-    ensures { λ r. ⌜ LargerAllows (a .entry) (b .entry) r ⌝ }
-{
-    let x = read(a);
-    if x.number != 0 {
-        return empty_part(a);
-    }
-    let y = read(b);
-    if y.number != 0 {
-        return empty_part(a);
-    }
-    let v = x.bytes;
-    let w = y.bytes;
-    let relation = comparing::compare(&v, &w);
-    match relation {
-        Relation::Less => b,
-        Relation::Equal => a,
-        Relation::Greater => a,
-        Relation::Unordered => empty_part(a),
     }
 }
 

@@ -1,9 +1,43 @@
-// `decimal128::larger` for C and Rust, in a static library of its own, whose copy of the reader slows no other.
-ghost use Rattle.decimal128.specs.Operations.{LargerAllows};
+// The larger of two texts, for Rattle and for C. It has a static library of its own: a second caller of the reader beside
+// `decimal128_read` would cost every reading.
+use comparing::Relation;
+ghost use mathlib.Core.Path.{_≡_};
+ghost use Rattle.meaning.specs.Order.{Choice};
+ghost use Rattle.larger.specs.Part.{slice, named, LargerAllows};
 
+fn empty_part(text: &[u8]) -> &[u8]
+    ensures { λ r. ⌜ slice r ≡ named Choice.neither (text .entry) (text .entry) ⌝ }
+{
+    &text[0..0]
+}
+
+// The text whose value is greater, the first when they are equal; where either is refused or is NaN, an empty part of the first.
+pub fn larger<'a>(a: &'a [u8], b: &'a [u8]) -> &'a [u8]
+    ensures { λ r. ⌜ LargerAllows (a .entry) (b .entry) r ⌝ }
+{
+    let x = decimal128::read(a);
+    if x.number != 0 {
+        return empty_part(a);
+    }
+    let y = decimal128::read(b);
+    if y.number != 0 {
+        return empty_part(a);
+    }
+    let v = x.bytes;
+    let w = y.bytes;
+    let relation = comparing::compare(&v, &w);
+    match relation {
+        Relation::Less => b,
+        Relation::Equal => a,
+        Relation::Greater => a,
+        Relation::Unordered => empty_part(a),
+    }
+}
+
+// include/decimal128.h says what it gives.
 #[no_mangle]
 pub extern "C" fn decimal128_larger<'a>(a: &'a [u8], b: &'a [u8], part: &mut &'a [u8])
     ensures { λ _. ⌜ LargerAllows (a .entry) (b .entry) (now (part .exit)) ⌝ }
 {
-    *part = decimal128::larger(a, b);
+    *part = larger(a, b);
 }

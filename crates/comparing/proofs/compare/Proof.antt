@@ -12,13 +12,12 @@ returns : tie.Need-returns
 returns c = c .special .ensures ∙ unpacked _ _ _ _ (c .before .before .before .before .before .unpack .ensures) (c .before .unpack2 .ensures)
 
 beside-requires : tie.Need-beside-requires
-beside-requires c κs = (
-  sym (c .before .before .before .before .before .is-finite .ensures) ∙ not-false _ (c .before .before .before .before .if1 .left),
-  sym (c .before .is-finite2 .ensures) ∙ not-true _ (c .if2 .taken),
-)
+beside-requires c κs = sym (c .before .is-finite2 .ensures) ∙ not-true _ (c .if2 .taken)
 
 returns-2 : tie.Need-returns-2
-returns-2 c = c .beside .ensures ∙ unpacked _ _ _ _ (c .before .before .before .before .before .before .before .unpack .ensures) (c .before .before .before .unpack3 .ensures)
+returns-2 c =
+    let f = sym (c .before .before .before .before .before .before .is-finite .ensures) ∙ not-false _ (c .before .before .before .before .before .if1 .left) in
+    c .beside .ensures _ f ∙ unpacked _ _ _ _ (c .before .before .before .before .before .before .before .unpack .ensures) (c .before .before .before .unpack3 .ensures)
 
 finite-requires : tie.Need-finite-requires
 finite-requires c κs =

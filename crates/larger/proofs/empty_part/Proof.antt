@@ -1,7 +1,7 @@
 use borrow.Author.Needs.{needs}
 use native.Mathlib.Nat.{zero-add}
-use Rattle.decimal128.proofs.empty_part.Statement.{statement}
-use Rattle.decimal128.proofs.empty_part.Tie as tie
+use Rattle.larger.proofs.empty_part.Statement.{statement}
+use Rattle.larger.proofs.empty_part.Tie as tie
 
 returns : tie.Need-returns
 returns c = rw zero-add

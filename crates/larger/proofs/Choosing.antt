@@ -18,8 +18,9 @@ use Rattle.meaning.proofs.Fields.{encodes-below, decodes-what-was-encoded}
 use Rattle.reading.proofs.Names.{number-some}
 use Rattle.comparing.specs.declared.Relation as comparing
 use Rattle.comparing.specs.Told.{told}
 use Rattle.decimal128.specs.declared.Answer.{Answer}
-use Rattle.decimal128.specs.Operations.{ReadAllows, storedRelation, slice, named, OneOfThreeSlices}
+use Rattle.decimal128.specs.Operations.{ReadAllows, storedRelation}
+use Rattle.larger.specs.Part.{slice, named, OneOfThreeSlices}
 
 -- ---- the readings, by their numbers
 

@@ -1,8 +1,8 @@
 use borrow.Author.Needs.{needs}
 use mathlib.Core.Path.{_∙_}
-use Rattle.decimal128.proofs.Choosing.{first-refused, second-refused, by-relation, picks}
-use Rattle.decimal128.proofs.larger.Statement.{statement}
-use Rattle.decimal128.proofs.larger.Tie as tie
+use Rattle.larger.proofs.Choosing.{first-refused, second-refused, by-relation, picks}
+use Rattle.larger.proofs.larger.Statement.{statement}
+use Rattle.larger.proofs.larger.Tie as tie
 
 returns : tie.Need-returns
 returns c =
