@@ -1,5 +1,5 @@
-// Decimal128: decimal text to 16 stored bytes and back. The public operations and nothing else; none asks anything of its
-// caller.
+// Decimal128: decimal text to 16 stored bytes and back, and how two values stand. The public operations and nothing else; none
+// asks anything of its caller. That of two texts, `larger`, is in a crate of its own.
 use comparing::Relation;
 use writing::Put;
 ghost use mathlib.Core.Path.{_≡_};
@@ -38,6 +38,7 @@ const NOT_ORDERED: u32 = 11;
 
 const NO_ORDER: i32 = 0;
 
+// A relation as its number and its order.
 fn compared_as(relation: Relation) -> Compared
     ensures { λ r. ⌜ r ≡ comparedAs (told relation) ⌝ }
 {

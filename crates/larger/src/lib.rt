@@ -5,6 +5,7 @@ ghost use mathlib.Core.Path.{_≡_};
 ghost use Rattle.meaning.specs.Order.{Choice};
 ghost use Rattle.larger.specs.Part.{slice, named, LargerAllows};
 
+// No byte of the text, from where it begins.
 fn empty_part(text: &[u8]) -> &[u8]
     ensures { λ r. ⌜ slice r ≡ named Choice.neither (text .entry) (text .entry) ⌝ }
 {
