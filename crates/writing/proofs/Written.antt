@@ -6,7 +6,7 @@ use native.Mathlib.Nat.{add-assoc, add-zero}
 use native.Mathlib.Numerals.{add-one}
 use native.Mathlib.Omega.{arith}
 use lib.ListN.{length, take, drop, set, getD, replicate, length-append, length-drop, length-set, length-replicate, take-append-drop, replicate-append-replicate}
-use lib.Seq.{set-split, length-take-le, take-all, take-at, drop-append-add, drop-drop, take-suc, drop-cons, take-set-le, drop-set-lt, getD-set-same}
+use lib.Seq.{set-split, length-take-le, take-all, take-at, drop-at, take-take, take-append-le, drop-append-add, drop-drop, take-suc}
 use Rattle.writing.specs.Written.{written}
 
 pub written-none : (at : ℕ) (b : List ℕ) → written at [] b ≡ b
@@ -82,14 +82,11 @@ written-two at x y b h =
 
 -- ---- from the end
 
-drop-set : (b : List ℕ) (j x : ℕ) → j < length b → drop j (set b j x) ≡ x ∷ drop (j + 1) b
-drop-set b j x h =
-    drop-cons (set b j x) j 0 (rw length-set h)
-    ∙ rw (getD-set-same b j x 0 h, drop-set-lt (suc j) b j x (omega arith), add-one)
-
--- a text whose last byte stands already
-pub written-before : (at n x : ℕ) (s b : List ℕ) → at + length s ≡ n → n < length b → written at s (set b n x) ≡ written at (s ++ x ∷ []) b
+-- a text right before a text that stands already
+pub written-before : (at n : ℕ) (s t b : List ℕ) → at + length s ≡ n → n ≤ length b → written at s (written n t b) ≡ written at (s ++ t) b
 unfolding written
-written-before at n x s b e h =
-    rw (e, take-set-le at b n x (omega arith), drop-set b n x h, append-assoc, length-append)
-    (let q : at + (length s + 1) ≡ n + 1 = omega arith in rw q)
+written-before at n s t b e h =
+    let l = length-take-le n b h in
+    let c = t ++ drop (n + length t) b in
+    rw (e, take-append-le at (take n b) c (rw l (omega arith)), take-take at n b (omega arith), drop-at (take n b) c n l, append-assoc, length-append, ← add-assoc)
+    (rw e)

@@ -1,23 +1,73 @@
-// The decimal digits of a coefficient, into a lent buffer.
+// The decimal digits of a coefficient, into a lent buffer. What is long goes nine digits at a time, from the last on.
 ghost use mathlib.Core.Path.{_≡_};
-ghost use Prim.Native.Nat.{_+_, _≤_};
+ghost use Prim.Native.Nat.{_+_, _^_, _<_, _≤_};
 ghost use lib.ListN.{length};
 ghost use Rattle.limbs.specs.Value.{value};
 ghost use Rattle.meaning.specs.Writing.{decimal};
-ghost use Rattle.writing.specs.Pieces.{Sized};
+ghost use Rattle.writing.specs.Pieces.{Sized, low};
 ghost use Rattle.writing.specs.Written.{written};
 
-// The digits of c, of which there are k, from `at` on.
+// The k digits of v, which has no more, from `at` on.
+fn put_few(buf: &mut [u8], at: usize, k: usize, v: u32)
+    requires { ⌜ (0 < k) × (v < 10 ^ k) × (at + k ≤ length (now buf)) ⌝ }
+    ensures { λ _. ⌜ now (buf .exit) ≡ written at (low k v) (now (buf .entry)) ⌝ }
+{
+    let mut rest = v;
+    let mut i = k - 1;
+    while 0 < i {
+        buf[at + i] = b'0' + (rest % 10) as u8;
+        rest = rest / 10;
+        i -= 1;
+    }
+    buf[at] = b'0' + rest as u8;
+}
+
+// Three digits: 70 -> 070
+fn put_three(buf: &mut [u8], at: usize, v: u32)
+    requires { ⌜ (v < 1000) × (at + 3 ≤ length (now buf)) ⌝ }
+    ensures { λ _. ⌜ now (buf .exit) ≡ written at (low 3 v) (now (buf .entry)) ⌝ }
+{
+    let two = v % 100;
+    buf[at] = b'0' + (v / 100) as u8;
+    buf[at + 1] = b'0' + (two / 10) as u8;
+    buf[at + 2] = b'0' + (two % 10) as u8;
+}
+
+// Nine digits: 1234567 -> 001234567
+fn put_nine(buf: &mut [u8], at: usize, v: u32)
+    requires { ⌜ (v < 10 ^ 9) × (at + 9 ≤ length (now buf)) ⌝ }
+    ensures { λ _. ⌜ now (buf .exit) ≡ written at (low 9 v) (now (buf .entry)) ⌝ }
+{
+    let six = v % 1_000_000;
+    put_three(buf, at, v / 1_000_000);
+    put_three(buf, at + 3, six / 1000);
+    put_three(buf, at + 6, six % 1000);
+}
+
+// The k digits of c, which has no more, from `at` on: nines from the end, and the few that stand before them.
+fn put_many(buf: &mut [u8], at: usize, k: usize, c: [u32; 4])
+    requires { ⌜ (0 < k) × (value c < 10 ^ k) × (at + k ≤ length (now buf)) ⌝ }
+    ensures { λ _. ⌜ now (buf .exit) ≡ written at (low k (value c)) (now (buf .entry)) ⌝ }
+{
+    let mut rest = c;
+    let mut i = k;
+    while 9 < i {
+        i -= 9;
+        let d = limbs::divide(rest, 1_000_000_000);
+        put_nine(buf, at + i, d.rest);
+        rest = d.quotient;
+    }
+    put_few(buf, at, i, limbs::low(rest) as u32);
+}
+
+// The digits of c, of which there are k, from `at` on. Everyday numbers have few.
 pub fn put_digits(buf: &mut [u8], at: usize, k: usize, c: [u32; 4])
     requires { ⌜ Sized (value c) k × (at + k ≤ length (now buf)) ⌝ }
     ensures { λ _. ⌜ now (buf .exit) ≡ written at (decimal (value c)) (now (buf .entry)) ⌝ }
 {
-    let mut rest = c;
-    let mut i = k;
-    while 0 < i {
-        i -= 1;
-        let d = limbs::divide_by_ten(rest);
-        buf[at + i] = b'0' + d.rest as u8;
-        rest = d.quotient;
+    if 9 < k {
+        put_many(buf, at, k, c);
+    } else {
+        put_few(buf, at, k, limbs::low(c) as u32);
     }
 }

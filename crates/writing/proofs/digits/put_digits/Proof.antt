@@ -1,50 +1,49 @@
-use mathlib.Core.Path.{_≡_, refl}
-use Prim.Native.Nat.{_≤_}
+use mathlib.Core.Path.{_≡_, _∙_}
+use Prim.Native.Nat.{_^_, _<_}
 use native.Mathlib.Omega.{arith}
-use lib.ListN.{length, length-set}
 use borrow.Author.Needs.{needs}
 use Rattle.limbs.specs.Value.{value}
+use Rattle.meaning.specs.Writing.{decimal}
 use Rattle.writing.specs.Pieces.{low}
-use Rattle.writing.specs.Written.{written}
-use Rattle.writing.proofs.Low.{turn, done}
+use Rattle.writing.proofs.Low.{low-all, below-all, few-low}
 use Rattle.writing.proofs.digits.put_digits.Statement.{statement}
 use Rattle.writing.proofs.digits.put_digits.Tie as tie
 
-abbrev Inv-loop : tie.InvT-loop
-Inv-loop buf₀ at k rest₀ i₀ buf rest i =
-    (i ≤ k) × (length buf ≡ length buf₀) × (written at (low i (value rest)) buf ≡ written at (low k (value rest₀)) buf₀)
+below : (s : tie.Start) → value (s .args .c) < 10 ^ s .args .k
+below s = let n = s .pre .0 in below-all _ _ (n .below) (n .count)
 
-abbrev μ-loop : tie.MeasureT-loop
-μ-loop buf₀ at k rest₀ i₀ buf rest i = i
+digits : (s : tie.Start) → low (s .args .k) (value (s .args .c)) ≡ decimal (value (s .args .c))
+digits s = low-all _ _ (s .pre .0 .count)
 
-loop-holds : tie.Need-loop-holds Inv-loop μ-loop
-loop-holds c = (search needs, refl, refl)
+put-many-requires : tie.Need-put-many-requires
+put-many-requires c κs = let s = c .before .before .before in (s .pre .0 .some, below s, s .pre .1)
 
-loop-again : tie.Need-loop-again Inv-loop μ-loop
-loop-again c =
-    let l = c .before .before .before .before .loop in
-    let d = c .before .before .divide-by-ten .ensures in
-    (search needs, simp length-set (l .inv .1), turn _ (l .i) (value (l .rest)) _ _ (l .buf) _ (c .before .before .before .loop-test .taken) (omega arith) (d .0) (d .1) (l .inv .2))
+lead : (c : tie.After-low) → (c .low .result ≡ value (c .before .before .before .before .args .c)) × (c .low .result < 10 ^ 9)
+lead c = let s = c .before .before .before .before in few-low (s .args .k) _ (omega arith) (below s) (c .low .ensures)
 
-returns : tie.Need-returns Inv-loop μ-loop
-returns c =
-    let l = c .before .loop in
-    done _ (l .i) _ (value (l .rest)) _ (l .buf) _ (omega arith) (c .before .before .before .pre .0 .count) (l .inv .2)
+cast-put-few : tie.Need-cast-put-few
+cast-put-few c = let h = lead c .1 in search needs
+
+put-few-requires : tie.Need-put-few-requires
+put-few-requires c κs = let s = c .before .before .before .before in (s .pre .0 .some, rw (lead c .0) (below s), s .pre .1)
+
+returns : tie.Need-returns
+returns c = c .before .before .put-many .ensures ∙ rw (digits (c .before .before .before .before .before .before))
+
+returns-2 : tie.Need-returns-2
+returns-2 c =
+    let a = c .before .before .before in
+    c .before .before .put-few .ensures ∙ rw (lead a .0, digits (a .before .before .before .before))
 
 pub put-digits-spec : {M : Type 1} → statement M
 put-digits-spec =
     tie.close
     (tie.spec
-    Inv-loop
-    μ-loop
-    loop-holds
-    (λ c. search needs)
+    put-many-requires
     (λ c κs. search needs)
+    cast-put-few
+    put-few-requires
     (λ c. search needs)
+    returns
     (λ c. search needs)
-    (λ c. search needs)
-    (λ c. search needs)
-    (λ c. search needs)
-    loop-again
-    (λ c. search needs)
-    returns)
+    returns-2)
