@@ -1,7 +1,7 @@
 """table.py FILE FIGURE: lines PEER TAB OPERATION TAB CLASS TAB NUMBER as a table in Markdown."""
 import sys
 
-NAMES = {"ours": "this library", "rust": "the Rust", "rust_to_string": "the Rust, `to_string`", "libbson": "libbson", "libbson_strlen": "libbson with `strlen`", "intel": "Intel's library", "gcc": "gcc"}
+NAMES = {"ours": "this library", "before": "this library before", "rust": "the Rust", "rust_to_string": "the Rust, `to_string`", "libbson": "libbson", "libbson_strlen": "libbson with `strlen`", "intel": "Intel's library", "gcc": "gcc"}
 OPERATIONS = ["read", "write", "less", "to_dpd", "from_dpd", "to_double"]
 
 rows, classes = {}, []

@@ -15,8 +15,10 @@ fn put_few(buf: &mut [u8], at: usize, k: usize, v: u32)
     let mut rest = v;
     let mut i = k - 1;
     while 0 < i {
-        buf[at + i] = b'0' + (rest % 10) as u8;
-        rest = rest / 10;
+        // rest % 10 would be divided out once more
+        let tenth = rest / 10;
+        buf[at + i] = b'0' + (rest - tenth * 10) as u8;
+        rest = tenth;
         i -= 1;
     }
     buf[at] = b'0' + rest as u8;
@@ -27,10 +29,12 @@ fn put_three(buf: &mut [u8], at: usize, v: u32)
     requires { ⌜ (v < 1000) × (at + 3 ≤ length (now buf)) ⌝ }
     ensures { λ _. ⌜ now (buf .exit) ≡ written at (low 3 v) (now (buf .entry)) ⌝ }
 {
-    let two = v % 100;
-    buf[at] = b'0' + (v / 100) as u8;
-    buf[at + 1] = b'0' + (two / 10) as u8;
-    buf[at + 2] = b'0' + (two % 10) as u8;
+    let hundreds = v / 100;
+    let two = v - hundreds * 100;
+    let tens = two / 10;
+    buf[at] = b'0' + hundreds as u8;
+    buf[at + 1] = b'0' + tens as u8;
+    buf[at + 2] = b'0' + (two - tens * 10) as u8;
 }
 
 // Nine digits: 1234567 -> 001234567

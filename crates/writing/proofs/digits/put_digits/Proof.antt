@@ -5,7 +5,8 @@ use borrow.Author.Needs.{needs}
 use Rattle.limbs.specs.Value.{value}
 use Rattle.meaning.specs.Writing.{decimal}
 use Rattle.writing.specs.Pieces.{low}
-use Rattle.writing.proofs.Low.{low-all, below-all, few-low}
+use Rattle.writing.proofs.Low.{low-all, below-all}
+use Rattle.writing.proofs.Nines.{few-low}
 use Rattle.writing.proofs.digits.put_digits.Statement.{statement}
 use Rattle.writing.proofs.digits.put_digits.Tie as tie
 

@@ -6,7 +6,7 @@ use borrow.Author.Needs.{needs}
 use Rattle.limbs.specs.Value.{value}
 use Rattle.writing.specs.Pieces.{low}
 use Rattle.writing.specs.Written.{written}
-use Rattle.writing.proofs.Low.{Left, left-all, left-turn, few-low}
+use Rattle.writing.proofs.Nines.{Left, left-all, left-turn, few-low}
 use Rattle.writing.proofs.digits.put_many.Statement.{statement}
 use Rattle.writing.proofs.digits.put_many.Tie as tie
 

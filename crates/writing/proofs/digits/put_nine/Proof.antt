@@ -1,5 +1,5 @@
 use borrow.Author.Needs.{needs}
-use Rattle.writing.proofs.Low.{nine}
+use Rattle.writing.proofs.Nines.{nine}
 use Rattle.writing.proofs.digits.put_nine.Statement.{statement}
 use Rattle.writing.proofs.digits.put_nine.Tie as tie
 

@@ -1,7 +1,8 @@
+use mathlib.Core.Path.{refl}
 use native.Mathlib.Omega.{arith}
 use lib.ListN.{length-set}
 use borrow.Author.Needs.{needs}
-use Rattle.writing.proofs.Low.{three}
+use Rattle.writing.proofs.Nines.{three}
 use Rattle.writing.proofs.digits.put_three.Statement.{statement}
 use Rattle.writing.proofs.digits.put_three.Tie as tie
 
@@ -15,7 +16,7 @@ same-length : tie.Need-same-length
 same-length c = simp length-set
 
 returns : tie.Need-returns
-returns c = three _ _ _ (c .pre .0) (c .pre .1)
+returns c = three _ (c .args .v) _ _ _ _ (c .pre .0) (c .pre .1) refl (omega arith) (omega arith)
 
 pub put-three-spec : {M : Type 1} → statement M
 put-three-spec =
@@ -27,7 +28,11 @@ put-three-spec =
     (λ c. search needs)
     (λ c. search needs)
     (λ c. search needs)
+    (λ c. search needs)
+    (λ c. search needs)
     slice-write-buf-2
+    (λ c. search needs)
+    (λ c. search needs)
     (λ c. search needs)
     (λ c. search needs)
     (λ c. search needs)
