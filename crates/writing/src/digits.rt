@@ -1,4 +1,4 @@
-// The decimal digits of a coefficient, into a lent buffer. What is long goes nine digits at a time, from the last on.
+// The decimal digits of a coefficient, into a lent buffer: nine at a time, from the last on.
 ghost use mathlib.Core.Path.{_≡_};
 ghost use Prim.Native.Nat.{_+_, _^_, _<_, _≤_};
 ghost use lib.ListN.{length};
@@ -15,7 +15,7 @@ fn put_few(buf: &mut [u8], at: usize, k: usize, v: u32)
     let mut rest = v;
     let mut i = k - 1;
     while 0 < i {
-        // rest % 10 would be divided out once more
+        // `rest % 10` would cost a second division
         let tenth = rest / 10;
         buf[at + i] = b'0' + (rest - tenth * 10) as u8;
         rest = tenth;
@@ -48,7 +48,7 @@ fn put_nine(buf: &mut [u8], at: usize, v: u32)
     put_three(buf, at + 6, six % 1000);
 }
 
-// The k digits of c, which has no more, from `at` on: nines from the end, and the few that stand before them.
+// The k digits of c, which has no more, from `at` on: nine a turn, from the end, and the few that are left in front.
 fn put_many(buf: &mut [u8], at: usize, k: usize, c: [u32; 4])
     requires { ⌜ (0 < k) × (value c < 10 ^ k) × (at + k ≤ length (now buf)) ⌝ }
     ensures { λ _. ⌜ now (buf .exit) ≡ written at (low k (value c)) (now (buf .entry)) ⌝ }
@@ -64,7 +64,7 @@ fn put_many(buf: &mut [u8], at: usize, k: usize, c: [u32; 4])
     put_few(buf, at, i, limbs::low(rest) as u32);
 }
 
-// The digits of c, of which there are k, from `at` on. Everyday numbers have few.
+// The digits of c, of which there are k, from `at` on. Everyday numbers have few, and go past the loop and what it keeps in registers.
 pub fn put_digits(buf: &mut [u8], at: usize, k: usize, c: [u32; 4])
     requires { ⌜ Sized (value c) k × (at + k ≤ length (now buf)) ⌝ }
     ensures { λ _. ⌜ now (buf .exit) ≡ written at (decimal (value c)) (now (buf .entry)) ⌝ }
