@@ -33,7 +33,7 @@ low-joined i (suc w) q r h =
     rw (e, d, m, low-joined i w q (r / 10) (omega arith), append-assoc)
 
 -- the last w digits, and the j before them
-pub low-split : (w j i n : ℕ) → j + w ≡ i → low i n ≡ low j (n / 10 ^ w) ++ low w (n % 10 ^ w)
+low-split : (w j i n : ℕ) → j + w ≡ i → low i n ≡ low j (n / 10 ^ w) ++ low w (n % 10 ^ w)
 low-split w j i n e = rw (e, div-add-mod') at (low-joined j w (n / 10 ^ w) (n % 10 ^ w) (mod-lt n (pow-pos w)))
 
 pub low-one : (r : ℕ) → r < 10 → low 1 r ≡ (48 + r) ∷ []

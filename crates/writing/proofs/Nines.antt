@@ -1,33 +1,16 @@
--- The digit producer: three digits, three times three, and loops that take nine or one off at a turn.
+-- The digit producer's loops, which take nine digits or one off at a turn.
 use mathlib.Core.Path.{_≡_, refl, ap, _∙_}
-use mathlib.Core.List.{List, _++_, append-assoc}
+use mathlib.Core.List.{List}
 use Prim.Native.Nat.{ℕ, _+_, _-_, _*_, _/_, _%_, _^_, _≤_, _<_}
 use native.Mathlib.Nat.{div-lt-iff-lt-mul, lt-of-lt-of-le}
 use native.Mathlib.Omega.{arith}
 use lib.Pow.{pow-add}
-use lib.ListN.{length, set, length-append, length-set}
+use lib.ListN.{length, set}
 use Rattle.meaning.proofs.Numbers.{pow-pos, pow-le}
 use Rattle.writing.specs.Pieces.{low}
 use Rattle.writing.specs.Written.{written}
-use Rattle.writing.proofs.Written.{written-one, written-two, length-written, follow}
-use Rattle.writing.proofs.Low.{length-low, low-one, low-split, turns}
-
-pub three : (at v x y z : ℕ) (b : List ℕ) → v < 1000 → at + 3 ≤ length b → x ≡ v / 100 → y ≡ v % 100 / 10 → z ≡ v % 10 → set (set (set b at (48 + x)) (at + 1) (48 + y)) (at + 2) (48 + z) ≡ written at (low 3 v) b
-unfolding low
-three at v x y z b h l e f g =
-    let p : v / 10 / 10 % 10 ≡ x = omega arith in
-    let q : v / 10 % 10 ≡ y = omega arith in
-    follow at (at + 2) _ _ b (written-two at (48 + x) (48 + y) b (omega arith)) (written-one (at + 2) (48 + z) _ (simp length-set (omega arith))) refl (omega arith)
-    ∙ rw (p, q, g)
-
-pub nine : (at v : ℕ) (b₀ : List ℕ) {b₁ b₂ b₃ : List ℕ} → at + 9 ≤ length b₀ → b₁ ≡ written at (low 3 (v / 1000000)) b₀ → b₂ ≡ written (at + 3) (low 3 (v % 1000000 / 1000)) b₁ → b₃ ≡ written (at + 6) (low 3 (v % 1000000 % 1000)) b₂ → b₃ ≡ written at (low 9 v) b₀
-nine at v b₀ h e f g =
-    let x = low 3 (v / 1000000) in
-    let y = low 3 (v % 1000000 / 1000) in
-    let z = low 3 (v % 1000000 % 1000) in
-    let d : x ++ (y ++ z) ≡ low 9 v = rw (low-split 6 3 9 v refl, low-split 3 3 6 (v % 1000000) refl) in
-    follow at (at + 6) (x ++ y) z b₀ (follow at (at + 3) x y b₀ e f (rw length-low) (omega arith)) g (simp (length-append, length-low)) (omega arith)
-    ∙ rw (append-assoc, d)
+use Rattle.writing.proofs.Written.{written-one, length-written}
+use Rattle.writing.proofs.Low.{length-low, low-one, turns}
 
 -- a number of at most nine digits is all in its lowest bits
 pub few-low : {r : ℕ} (k n : ℕ) → k ≤ 9 → n < 10 ^ k → r ≡ n % 2 ^ 64 → (r ≡ n) × (r < 10 ^ 9)

@@ -1,4 +1,4 @@
-// The decimal digits of a coefficient, into a lent buffer: nine at a time, from the last on.
+// The decimal digits of a coefficient, into a lent buffer, nine at a time.
 ghost use mathlib.Core.Path.{_≡_};
 ghost use Prim.Native.Nat.{_+_, _^_, _<_, _≤_};
 ghost use lib.ListN.{length};
@@ -7,7 +7,7 @@ ghost use Rattle.meaning.specs.Writing.{decimal};
 ghost use Rattle.writing.specs.Pieces.{Sized, low};
 ghost use Rattle.writing.specs.Written.{written};
 
-// The k digits of v, which has no more, from `at` on.
+// The k digits of v, which has no more, from `at` on; zeros stand for those that it has not: 70 in nine -> 000000070
 fn put_few(buf: &mut [u8], at: usize, k: usize, v: u32)
     requires { ⌜ (0 < k) × (v < 10 ^ k) × (at + k ≤ length (now buf)) ⌝ }
     ensures { λ _. ⌜ now (buf .exit) ≡ written at (low k v) (now (buf .entry)) ⌝ }
@@ -24,31 +24,7 @@ fn put_few(buf: &mut [u8], at: usize, k: usize, v: u32)
     buf[at] = b'0' + rest as u8;
 }
 
-// Three digits: 70 -> 070
-fn put_three(buf: &mut [u8], at: usize, v: u32)
-    requires { ⌜ (v < 1000) × (at + 3 ≤ length (now buf)) ⌝ }
-    ensures { λ _. ⌜ now (buf .exit) ≡ written at (low 3 v) (now (buf .entry)) ⌝ }
-{
-    let hundreds = v / 100;
-    let two = v - hundreds * 100;
-    let tens = two / 10;
-    buf[at] = b'0' + hundreds as u8;
-    buf[at + 1] = b'0' + tens as u8;
-    buf[at + 2] = b'0' + (two - tens * 10) as u8;
-}
-
-// Nine digits: 1234567 -> 001234567
-fn put_nine(buf: &mut [u8], at: usize, v: u32)
-    requires { ⌜ (v < 10 ^ 9) × (at + 9 ≤ length (now buf)) ⌝ }
-    ensures { λ _. ⌜ now (buf .exit) ≡ written at (low 9 v) (now (buf .entry)) ⌝ }
-{
-    let six = v % 1_000_000;
-    put_three(buf, at, v / 1_000_000);
-    put_three(buf, at + 3, six / 1000);
-    put_three(buf, at + 6, six % 1000);
-}
-
-// The k digits of c, which has no more, from `at` on: nine a turn, from the end, and the few that are left in front.
+// The k digits of c, which has no more, from `at` on: nine a turn, from the last on, and the few that are left in front.
 fn put_many(buf: &mut [u8], at: usize, k: usize, c: [u32; 4])
     requires { ⌜ (0 < k) × (value c < 10 ^ k) × (at + k ≤ length (now buf)) ⌝ }
     ensures { λ _. ⌜ now (buf .exit) ≡ written at (low k (value c)) (now (buf .entry)) ⌝ }
@@ -58,13 +34,13 @@ fn put_many(buf: &mut [u8], at: usize, k: usize, c: [u32; 4])
     while 9 < i {
         i -= 9;
         let d = limbs::divide(rest, 1_000_000_000);
-        put_nine(buf, at + i, d.rest);
+        put_few(buf, at + i, 9, d.rest);
         rest = d.quotient;
     }
     put_few(buf, at, i, limbs::low(rest) as u32);
 }
 
-// The digits of c, of which there are k, from `at` on. Everyday numbers have few, and go past the loop and what it keeps in registers.
+// The digits of c, of which there are k, from `at` on. Everyday numbers have few, and are spared what the loop keeps in registers.
 pub fn put_digits(buf: &mut [u8], at: usize, k: usize, c: [u32; 4])
     requires { ⌜ Sized (value c) k × (at + k ≤ length (now buf)) ⌝ }
     ensures { λ _. ⌜ now (buf .exit) ≡ written at (decimal (value c)) (now (buf .entry)) ⌝ }

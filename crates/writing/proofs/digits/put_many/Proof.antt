@@ -24,7 +24,7 @@ loop-again c =
     let nine = c .before .before .before in
     let d = nine .before .before in
     let l = d .before .before .loop in
-    (search needs, search needs, left-turn 9 (l .inv .2) (omega arith) (omega arith) (d .divide .ensures .0) (d .divide .ensures .1) (nine .put-nine .ensures))
+    (search needs, search needs, left-turn 9 (l .inv .2) (omega arith) (omega arith) (d .divide .ensures .0) (d .divide .ensures .1) (nine .put-few .ensures))
 
 lead : (c : tie.After-low Inv-loop μ-loop) → (c .low .result ≡ value (c .before .before .before .loop .rest)) × (c .low .result < 10 ^ 9)
 lead c = let l = c .before .before .before .loop in few-low (l .i) (value (l .rest)) (omega arith) (l .inv .2 .below) (c .low .ensures)
@@ -32,13 +32,13 @@ lead c = let l = c .before .before .before .loop in few-low (l .i) (value (l .re
 cast-put-few : tie.Need-cast-put-few Inv-loop μ-loop
 cast-put-few c = let h = lead c .1 in search needs
 
-put-few-requires : tie.Need-put-few-requires Inv-loop μ-loop
-put-few-requires c κs = let l = c .before .before .before .loop .inv .2 in (l .some, rw (lead c .0) (l .below), l .room)
+put-few-requires-2 : tie.Need-put-few-requires-2 Inv-loop μ-loop
+put-few-requires-2 c κs = let l = c .before .before .before .loop .inv .2 in (l .some, rw (lead c .0) (l .below), l .room)
 
 returns : tie.Need-returns Inv-loop μ-loop
 returns c =
     let a = c .before .before .before in
-    c .before .before .put-few .ensures ∙ rw (lead a .0) (a .before .before .before .loop .inv .2 .whole)
+    c .before .before .put-few2 .ensures ∙ rw (lead a .0) (a .before .before .before .loop .inv .2 .whole)
 
 pub put-many-spec : {M : Type 1} → statement M
 put-many-spec =
@@ -55,6 +55,6 @@ put-many-spec =
     loop-again
     (λ c κs. search needs)
     cast-put-few
-    put-few-requires
+    put-few-requires-2
     (λ c. search needs)
     returns)
