@@ -1,9 +1,9 @@
--- Laws of four limbs by their lower two, of the order of two numbers, and of scaling one of them.
+-- Laws of four limbs by their lower two, of the order of two numbers, of scaling one of them, and of the counts of their digits.
 use mathlib.Core.Path.{_≡_, sym, ap, _∙_}
 use mathlib.Core.Bool.{Bool, true, false}
 use mathlib.Core.List.{List}
 use Prim.Native.Nat.{ℕ, _+_, _-_, _*_, _%_, _^_, _≤_, _<_, min}
-use native.Mathlib.Nat.{add-zero, mul-zero, zero-mul, mul-one, one-mul, mul-assoc, mul-le-mul-right, le-mul-of-pos-right, lt-of-lt-of-le, le-trans}
+use native.Mathlib.Nat.{add-zero, mul-zero, zero-mul, mul-one, one-mul, mul-assoc, mul-le-mul-right, mul-lt-mul-of-pos-right, le-mul-of-pos-right, lt-of-lt-of-le, le-trans}
 use native.Mathlib.Omega.{arith}
 use lib.Dec.{eqb, ltb, lit≤}
 use mir.Syntax.{w32}
@@ -14,10 +14,12 @@ use borrow.Author.Tests.{lt-ltb, le-ltb, ltb-true, ltb-false, eqb-true, eqb-fals
 use Rattle.meaning.specs.Order.{compared, scaled}
 use Rattle.meaning.proofs.Numbers.{by-test, pow-pos, pow-le}
 use Rattle.limbs.specs.Value.{value}
+use Rattle.limbs.specs.Count.{Counts}
 use Rattle.limbs.specs.Order.{order}
 use Rattle.limbs.specs.declared.Order.{Order}
 use Rattle.limbs.specs.declared.Carried.{Carried}
-use Rattle.limbs.specs.declared.Order.the-variants.{Greater}
+use Rattle.limbs.specs.declared.Order.the-variants.{Less, Greater}
+use Rattle.limbs.proofs.Counting.{counts-few}
 use Rattle.limbs.proofs.Laws.{value-four}
 use Rattle.comparing.specs.Told.{toldOf, turnedOf}
 
@@ -52,6 +54,9 @@ lowest-limb a l f z e p =
 
 order-greater : (m n : ℕ) → n < m → order m n ≡ Greater
 order-greater m n h = rw (le-ltb m n (omega arith), lt-ltb n m h)
+
+order-less : (m n : ℕ) → m < n → order m n ≡ Less
+order-less m n h = rw (lt-ltb m n h)
 
 pub order-turned : (m n : ℕ) → turnedOf (order m n) ≡ order n m
 order-turned m n =
@@ -119,3 +124,28 @@ module _ (a x c e : ℕ) where
 
   pub level : x ≡ e → order a c ≡ order (scaled a x e) (scaled c e x)
   level l = let z : e - x ≡ 0 = omega arith in rw (z, mul-one) at (lower (omega arith))
+
+-- ---- the same by the counts of the digits
+
+-- where the first digit stands
+pub height-fits : (x n k : ℕ) → Fits w32 x → n < 10 ^ 34 → Counts n k → x + k < 2 ^ 64
+height-fits x n k f l h = omega (arith, counts-few n k l h)
+
+-- the first digit of a·10^p stands below that of c·10^q
+first-below : (a c p q k j : ℕ) → a < 10 ^ k → 10 ^ j ≤ c → k + p ≤ j + q → a * 10 ^ p < c * 10 ^ q
+first-below a c p q k j f g h =
+    lt-of-lt-of-le
+    (rw (← pow-add 10 k p) at (mul-lt-mul-of-pos-right f (pow-pos p)))
+    (le-trans (pow-le h) (rw (pow-add 10 j q) (mul-le-mul-right (10 ^ q) g)))
+
+-- c is not zero, and its first digit stands higher
+scaled-below : (a x c e k l : ℕ) → Counts a k → Counts c l → 1 ≤ c → x + k < e + l → scaled a x e < scaled c e x
+scaled-below a x c e k l f g n h =
+    first-below a c (x - min x e) (e - min e x) k (l - 1) (f .below) (omega (arith, g .above)) (omega (arith, g .some))
+
+module _ (a x c e k l : ℕ) (f : Counts a k) (g : Counts c l) where
+  pub height-less : 1 ≤ c → x + k < e + l → Less ≡ order (scaled a x e) (scaled c e x)
+  height-less n h = sym (order-less _ _ (scaled-below a x c e k l f g n h))
+
+  pub height-greater : 1 ≤ a → e + l < x + k → Greater ≡ order (scaled a x e) (scaled c e x)
+  height-greater n h = sym (order-greater _ _ (scaled-below c e a x l k g f n h))

@@ -1,23 +1,28 @@
 -- Laws of signed numbers, and of the relation of two values by their kinds and signs.
 use mathlib.Core.Path.{_≡_, refl, sym, ap, _∙_}
 use mathlib.Core.Logic.{⊎-elim}
-use mathlib.Core.Bool.{Bool, true, false, not, Bool·beq, true≢false}
+use mathlib.Core.Bool.{Bool, true, false, not, cond, Bool·beq, true≢false}
 use Prim.Native.Nat.{ℕ, _+_, _-_, _*_, _^_, _≤_, _<_, min}
 use native.Mathlib.Nat.{add-zero, zero-add, zero-mul, le-mul-of-pos-right}
 use native.Mathlib.Omega.{arith}
+use lib.ListN.{length}
 use Rattle.meaning.specs.Decimal.{InRange}
 use Rattle.meaning.specs.Decimal.Decimal.{finite}
 use Rattle.meaning.specs.Layout.{decode}
 use Rattle.meaning.specs.Order.{compared, signed, scaled, relation}
 use Rattle.meaning.specs.Order.Relation.{less, equal, greater, unordered}
+use Rattle.meaning.specs.Writing.{decimal}
 use Rattle.meaning.proofs.Numbers.{le-or, pow-pos}
 use Rattle.meaning.proofs.Fields.{decodes-in-range}
 use Rattle.meaning.proofs.Ordering.{shown, turns-round}
 use Rattle.meaning.specs.Promises.{turned}
 use Rattle.limbs.specs.Value.{value}
+use Rattle.limbs.specs.Count.{Counts}
 use Rattle.limbs.specs.Order.{order}
 use Rattle.limbs.specs.declared.Order.{Order}
-use Rattle.layout.specs.Unpacked.{meantBy, meant}
+use Rattle.limbs.proofs.Counting.{decimal-counts}
+use Rattle.layout.specs.Unpacked.{saidBy, said, meant, digitsOf, TrueCount}
+use Rattle.layout.specs.declared.Fields.{Fields}
 use Rattle.layout.specs.declared.Unpacked.{Unpacked}
 use Rattle.layout.specs.declared.Kind.{Kind}
 use Rattle.layout.specs.declared.Kind.the-variants.{Nan, Infinity, Finite}
@@ -58,6 +63,11 @@ unfolding signed
 apart true m n h = shown 0 (n + m) less (omega arith)
 apart false m n h = shown (m + n) 0 greater h
 
+-- where the signs are one the order decides, turned round for negative numbers
+one-sign : (s : Bool) (m n : ℕ) → toldOf (cond s (turnedOf (order m n)) (order m n)) ≡ signed s m s n
+one-sign true m n = ap toldOf (order-turned m n) ∙ told-order n m ∙ sym (negatives m n)
+one-sign false m n = told-order m n ∙ sym (plain m n)
+
 -- where the signs differ a scale does not matter
 apart-times : (s : Bool) (m n p q : ℕ) → 1 ≤ p → 1 ≤ q → signed s (m * p) (not s) (n * q) ≡ signed s m (not s) n
 apart-times s m n p q g h =
@@ -73,18 +83,10 @@ module _ (s t : Bool) (x a e c : ℕ) where
   opposites d =
       rw d (sym (apart-times s a c (10 ^ (x - min x e)) (10 ^ (e - min e x)) (pow-pos (x - min x e)) (pow-pos (e - min e x))))
 
-  -- o and p are orders that were computed
-  pub both-negative : {o p : Order} → s ≡ true → t ≡ s → p ≡ turnedOf o → o ≡ order (scaled a x e) (scaled c e x) → toldOf p ≡ relation (finite s x a) (finite t e c)
+  -- o is an order that was computed
+  pub of-one-sign : {o : Order} → t ≡ s → o ≡ order (scaled a x e) (scaled c e x) → toldOf (cond s (turnedOf o) o) ≡ relation (finite s x a) (finite t e c)
   unfolding relation
-  both-negative d k f g =
-      ap toldOf (f ∙ ap turnedOf g ∙ order-turned (scaled a x e) (scaled c e x))
-      ∙ told-order (scaled c e x) (scaled a x e)
-      ∙ rw (k, d) (sym (negatives (scaled a x e) (scaled c e x)))
-
-  pub none-negative : {o : Order} → s ≡ false → t ≡ s → o ≡ order (scaled a x e) (scaled c e x) → toldOf o ≡ relation (finite s x a) (finite t e c)
-  unfolding relation
-  none-negative d k g =
-      ap toldOf g ∙ told-order (scaled a x e) (scaled c e x) ∙ rw (k, d) (sym (plain (scaled a x e) (scaled c e x)))
+  of-one-sign d g = rw (d, g) (one-sign s (scaled a x e) (scaled c e x))
 
 -- ---- two values, by their kinds
 
@@ -98,17 +100,17 @@ infinite-kind (Nan q) d e = absurd (true≢false d)
 infinite-kind Infinity d e = refl
 infinite-kind Finite d e = absurd (true≢false e)
 
-pub first-nan : (u v : Unpacked) → isNan (u .kind) ≡ true → relation (meant u) (meant v) ≡ unordered
-unfolding meant relation
+pub first-nan : (u v : Fields) → isNan (u .kind) ≡ true → relation (said u) (said v) ≡ unordered
+unfolding said relation
 first-nan u v d = first (u .kind) d
   where
-    first : (k : Kind) → isNan k ≡ true → relation (meantBy k (u .negative) (u .exponent) (value (u .coefficient))) (meant v) ≡ unordered
+    first : (k : Kind) → isNan k ≡ true → relation (saidBy k (u .negative) (u .exponent) (value (u .coefficient))) (said v) ≡ unordered
     first (Nan q) d = refl
     first Infinity d = absurd (true≢false (sym d))
     first Finite d = absurd (true≢false (sym d))
 
-pub second-nan : (u v : Unpacked) → isNan (v .kind) ≡ true → relation (meant u) (meant v) ≡ unordered
-second-nan u v d = turns-round (meant v) (meant u) ∙ ap turned (first-nan v u d)
+pub second-nan : (u v : Fields) → isNan (v .kind) ≡ true → relation (said u) (said v) ≡ unordered
+second-nan u v d = turns-round (said v) (said u) ∙ ap turned (first-nan v u d)
 
 one-zero : (s t : Bool) → signed s 1 t 0 ≡ sideOf s
 unfolding signed
@@ -121,39 +123,46 @@ turned-side : (s : Bool) → turned (sideOf s) ≡ sideOf (not s)
 turned-side true = refl
 turned-side false = refl
 
-pub from-infinity : (u v : Unpacked) → u .kind ≡ Infinity → isFinite (v .kind) ≡ true → relation (meant u) (meant v) ≡ sideOf (u .negative)
-unfolding meant relation
+pub from-infinity : (u v : Fields) → u .kind ≡ Infinity → isFinite (v .kind) ≡ true → relation (said u) (said v) ≡ sideOf (u .negative)
+unfolding said relation
 from-infinity u v p q = rw (p, finite-kind (v .kind) q) (one-zero (u .negative) (v .negative))
 
-pub to-infinity : (u v : Unpacked) → isFinite (u .kind) ≡ true → v .kind ≡ Infinity → relation (meant u) (meant v) ≡ sideOf (not (v .negative))
+pub to-infinity : (u v : Fields) → isFinite (u .kind) ≡ true → v .kind ≡ Infinity → relation (said u) (said v) ≡ sideOf (not (v .negative))
 to-infinity u v p q =
-    turns-round (meant v) (meant u) ∙ ap turned (from-infinity v u q p) ∙ turned-side (v .negative)
+    turns-round (said v) (said u) ∙ ap turned (from-infinity v u q p) ∙ turned-side (v .negative)
 
-infinities : (u v : Unpacked) → u .kind ≡ Infinity → v .kind ≡ Infinity → relation (meant u) (meant v) ≡ signed (u .negative) 1 (v .negative) 1
-unfolding meant relation
+infinities : (u v : Fields) → u .kind ≡ Infinity → v .kind ≡ Infinity → relation (said u) (said v) ≡ signed (u .negative) 1 (v .negative) 1
+unfolding said relation
 infinities u v p q = rw (p, q)
 
-pub one-infinity : (u v : Unpacked) → u .kind ≡ Infinity → v .kind ≡ Infinity → v .negative ≡ u .negative → relation (meant u) (meant v) ≡ equal
+pub one-infinity : (u v : Fields) → u .kind ≡ Infinity → v .kind ≡ Infinity → v .negative ≡ u .negative → relation (said u) (said v) ≡ equal
 one-infinity u v p q d = infinities u v p q ∙ rw d (alike (u .negative))
   where
     alike : (s : Bool) → signed s 1 s 1 ≡ equal
     alike true = negatives 1 1 ∙ shown 1 1 equal refl
     alike false = plain 1 1 ∙ shown 1 1 equal refl
 
-pub two-infinities : (u v : Unpacked) → u .kind ≡ Infinity → v .kind ≡ Infinity → v .negative ≡ not (u .negative) → relation (meant u) (meant v) ≡ sideOf (u .negative)
+pub two-infinities : (u v : Fields) → u .kind ≡ Infinity → v .kind ≡ Infinity → v .negative ≡ not (u .negative) → relation (said u) (said v) ≡ sideOf (u .negative)
 two-infinities u v p q d = infinities u v p q ∙ rw d (apart (u .negative) 1 1 (omega arith))
 
-pub of-finite : (u v : Unpacked) → isFinite (u .kind) ≡ true → isFinite (v .kind) ≡ true → relation (finite (u .negative) (u .exponent) (value (u .coefficient))) (finite (v .negative) (v .exponent) (value (v .coefficient))) ≡ relation (meant u) (meant v)
-unfolding meant
+pub of-finite : (u v : Fields) → isFinite (u .kind) ≡ true → isFinite (v .kind) ≡ true → relation (finite (u .negative) (u .exponent) (value (u .coefficient))) (finite (v .negative) (v .exponent) (value (v .coefficient))) ≡ relation (said u) (said v)
+unfolding said
 of-finite u v p q = rw (finite-kind (u .kind) p, finite-kind (v .kind) q)
 
--- ---- unpacked values
+-- ---- fields of stored bytes, and unpacked values
 
-pub unpacked : (u v : Unpacked) (m n : ℕ) → meant u ≡ decode m → meant v ≡ decode n → relation (meant u) (meant v) ≡ relation (decode m) (decode n)
-unpacked u v m n p q = rw (p, q)
+pub stored-fields : (u v : Fields) (m n : ℕ) → said u ≡ decode m → said v ≡ decode n → relation (said u) (said v) ≡ relation (decode m) (decode n)
+stored-fields u v m n p q = rw (p, q)
 
-pub finite-ranged : (u : Unpacked) (n : ℕ) → meant u ≡ decode n → isFinite (u .kind) ≡ true → value (u .coefficient) < 10 ^ 34
-unfolding meant
-finite-ranged u n e f =
-    let h : InRange (meant u) = rw e (decodes-in-range n) in
-    (rw (finite-kind (u .kind) f) at h) .1
+pub stored-ranged : (u : Fields) (n : ℕ) → said u ≡ decode n → InRange (said u)
+stored-ranged u n e = rw e (decodes-in-range n)
+
+pub finite-ranged : (u : Fields) → InRange (said u) → isFinite (u .kind) ≡ true → value (u .coefficient) < 10 ^ 34
+unfolding said
+finite-ranged u h f = (rw (finite-kind (u .kind) f) at h) .1
+
+pub finite-counts : (u : Unpacked) → InRange (meant u) → TrueCount u → isFinite (u .fields .kind) ≡ true → Counts (value (u .fields .coefficient)) (u .digits)
+unfolding meant said digitsOf
+finite-counts u h t f =
+    let e : u .digits ≡ length (decimal (value (u .fields .coefficient))) = rw (finite-kind (u .fields .kind) f) at t in
+    rw e (decimal-counts (value (u .fields .coefficient)) (finite-ranged (u .fields) h f))

@@ -1,16 +1,19 @@
 // The order of two values.
+use layout::Fields;
 use layout::Kind;
 use layout::Unpacked;
 use limbs::Order;
 ghost use mathlib.Core.Path.{_≡_};
-ghost use mathlib.Core.Bool.{true, false, not};
+ghost use mathlib.Core.Bool.{true, false, not, cond};
 ghost use Prim.Native.Nat.{_*_, _^_, _≤_, _<_};
 ghost use lib.Dec.{eqb};
 ghost use Rattle.limbs.specs.Value.{value};
+ghost use Rattle.limbs.specs.Count.{Counts};
 ghost use Rattle.limbs.specs.Order.{order};
-ghost use Rattle.layout.specs.Unpacked.{meant};
-ghost use Rattle.layout.specs.declared.Unpacked as declared;
+ghost use Rattle.layout.specs.Unpacked.{said, meant, TrueCount};
+ghost use Rattle.layout.specs.declared.Fields as declared;
 ghost use Rattle.meaning.specs.Decimal as decimal;
+ghost use Rattle.meaning.specs.Decimal.{InRange};
 ghost use Rattle.meaning.specs.Layout.{stored, decode};
 ghost use Rattle.meaning.specs.Order as meaning;
 ghost use Rattle.meaning.specs.Order.{scaled, signed};
@@ -140,6 +143,33 @@ fn magnitudes(x: u32, a: [u32; 4], e: u32, c: [u32; 4]) -> Order
     raised(a, d, c)
 }
 
+// The same by the counts, of two values that are finite: where neither is zero, the first digit that stands higher decides.
+fn heights(u: Unpacked, v: Unpacked) -> Order
+    requires { ⌜ (value (u .fields .coefficient) < 10 ^ 34) × (value (v .fields .coefficient) < 10 ^ 34) ⌝ }
+    requires { ⌜ Counts (value (u .fields .coefficient)) (u .digits) × Counts (value (v .fields .coefficient)) (v .digits) ⌝ }
+    ensures { λ r. ⌜ r ≡ order (scaled (value (u .fields .coefficient)) (u .fields .exponent) (v .fields .exponent)) (scaled (value (v .fields .coefficient)) (v .fields .exponent) (u .fields .exponent)) ⌝ }
+{
+    let x = u.fields.exponent;
+    let a = u.fields.coefficient;
+    let e = v.fields.exponent;
+    let c = v.fields.coefficient;
+    if is_zero(a) {
+        return magnitudes(x, a, e, c);
+    }
+    if is_zero(c) {
+        return magnitudes(x, a, e, c);
+    }
+    let first = x as usize + u.digits;
+    let second = e as usize + v.digits;
+    if first < second {
+        return Order::Less;
+    }
+    if second < first {
+        return Order::Greater;
+    }
+    magnitudes(x, a, e, c)
+}
+
 // ---- signs
 
 // An order is a relation.
@@ -177,8 +207,18 @@ fn opposite(negative: bool, a: [u32; 4], c: [u32; 4]) -> Relation
     Relation::Equal
 }
 
+// The relation of two values of one sign, whose magnitudes have this order.
+fn with_sign(negative: bool, o: Order) -> Relation
+    ensures { λ r. ⌜ told r ≡ toldOf (cond negative (turnedOf o) o) ⌝ }
+{
+    if negative {
+        return relation_of(turned(o));
+    }
+    relation_of(o)
+}
+
 // Two finite values.
-fn finite(u: Unpacked, v: Unpacked) -> Relation
+fn finite(u: Fields, v: Fields) -> Relation
     requires { ⌜ (value (u .coefficient) < 10 ^ 34) × (value (v .coefficient) < 10 ^ 34) ⌝ }
     ensures { λ r. ⌜ told r ≡ meaning.relation (decimal.Decimal.finite (u .negative) (u .exponent) (value (u .coefficient))) (decimal.Decimal.finite (v .negative) (v .exponent) (value (v .coefficient))) ⌝ }
 {
@@ -188,11 +228,7 @@ fn finite(u: Unpacked, v: Unpacked) -> Relation
     if negative != v.negative {
         return opposite(negative, a, c);
     }
-    let o = magnitudes(u.exponent, a, v.exponent, c);
-    if negative {
-        return relation_of(turned(o));
-    }
-    relation_of(o)
+    with_sign(negative, magnitudes(u.exponent, a, v.exponent, c))
 }
 
 // ---- infinities and NaN
@@ -218,9 +254,9 @@ fn is_nan(kind: Kind) -> bool
 }
 
 // A NaN or an infinity against any value.
-fn special(u: Unpacked, v: Unpacked) -> Relation
+fn special(u: Fields, v: Fields) -> Relation
     requires { ⌜ isFinite (u .kind) ≡ false ⌝ }
-    ensures { λ r. ⌜ told r ≡ meaning.relation (meant u) (meant v) ⌝ }
+    ensures { λ r. ⌜ told r ≡ meaning.relation (said u) (said v) ⌝ }
 {
     let first = u.kind;
     let second = v.kind;
@@ -240,9 +276,9 @@ fn special(u: Unpacked, v: Unpacked) -> Relation
 }
 
 // Any finite value against a NaN or an infinity.
-fn beside(v: Unpacked) -> Relation
+fn beside(v: Fields) -> Relation
     requires { ⌜ isFinite (v .kind) ≡ false ⌝ }
-    ensures { λ r. ⌜ ((u : declared.Unpacked) → isFinite (u .kind) ≡ true → told r ≡ meaning.relation (meant u) (meant v)) ⌝ }
+    ensures { λ r. ⌜ ((u : declared.Fields) → isFinite (u .kind) ≡ true → told r ≡ meaning.relation (said u) (said v)) ⌝ }
 {
     let kind = v.kind;
     if is_nan(kind) {
@@ -256,15 +292,38 @@ fn beside(v: Unpacked) -> Relation
 pub fn compare(a: &[u8; 16], b: &[u8; 16]) -> Relation
     ensures { λ r. ⌜ told r ≡ meaning.relation (decode (stored (now (a .entry)))) (decode (stored (now (b .entry)))) ⌝ }
 {
-    let u = layout::unpack(*a);
+    let u = layout::fields_of(*a);
     let first = u.kind;
     if !is_finite(first) {
-        return special(u, layout::unpack(*b));
+        return special(u, layout::fields_of(*b));
     }
-    let v = layout::unpack(*b);
+    let v = layout::fields_of(*b);
     let second = v.kind;
     if !is_finite(second) {
         return beside(v);
     }
     finite(u, v)
+}
+
+// The relation of two values whose digits are counted already.
+pub fn values(u: Unpacked, v: Unpacked) -> Relation
+    requires { ⌜ InRange (meant u) × InRange (meant v) × TrueCount u × TrueCount v ⌝ }
+    ensures { λ r. ⌜ told r ≡ meaning.relation (meant u) (meant v) ⌝ }
+{
+    let f = u.fields;
+    let g = v.fields;
+    let first = f.kind;
+    if !is_finite(first) {
+        return special(f, g);
+    }
+    let second = g.kind;
+    if !is_finite(second) {
+        return beside(g);
+    }
+    if f.negative != g.negative {
+        let a = f.coefficient;
+        let c = g.coefficient;
+        return opposite(f.negative, a, c);
+    }
+    with_sign(f.negative, heights(u, v))
 }

@@ -13,7 +13,7 @@ ghost use Rattle.meaning.specs.Decimal.{InRange};
 ghost use Rattle.meaning.specs.Reading.{acceptedAs};
 ghost use Rattle.meaning.specs.Writing.{decimal, writeText};
 ghost use Rattle.meaning.specs.Stream.{recordText};
-ghost use Rattle.layout.specs.Unpacked.{meant};
+ghost use Rattle.layout.specs.Unpacked.{meant, TrueCount};
 ghost use Rattle.writing.specs.Put.{Puts};
 ghost use Rattle.writing.specs.Written.{written};
 ghost use Rattle.decimal128.specs.Record.{front, dashes, TextIn};
@@ -30,7 +30,7 @@ fn put_front(buf: &mut [u8], bytes: [u8; 16])
 
 // The text, where it belongs, with three bytes left for what stands behind it.
 fn put_text(value: Unpacked, buf: &mut [u8]) -> Put
-    requires { ⌜ InRange (meant value) × (38 ≤ length (now buf)) ⌝ }
+    requires { ⌜ InRange (meant value) × TrueCount value × (38 ≤ length (now buf)) ⌝ }
     ensures { λ r. ⌜ TextIn (writeText (meant value)) (now (buf .entry)) r (now (buf .exit)) ⌝ }
 {
     let end = buf.len() - 3;
@@ -39,7 +39,7 @@ fn put_text(value: Unpacked, buf: &mut [u8]) -> Put
 
 // The text is put first: it says whether there is room. Behind it stand a tab, the place 0 and LF.
 pub fn accepted(value: Unpacked, buf: &mut [u8]) -> Put
-    requires { ⌜ InRange (meant value) ⌝ }
+    requires { ⌜ InRange (meant value) × TrueCount value ⌝ }
     ensures { λ r. ⌜ Puts (recordText (acceptedAs (meant value))) (now (buf .entry)) r (now (buf .exit)) ⌝ }
 {
     if buf.len() < 38 {
@@ -49,7 +49,7 @@ pub fn accepted(value: Unpacked, buf: &mut [u8]) -> Put
     let Put::Done(n) = put else {
         return Put::NoRoom;
     };
-    put_front(buf, layout::pack(value));
+    put_front(buf, layout::pack(value.fields));
     pieces::put_two(buf, 35 + n, 9, 48);
     buf[37 + n] = 10;
     Put::Done(38 + n)

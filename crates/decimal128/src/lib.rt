@@ -118,7 +118,7 @@ pub fn read(text: &[u8]) -> Answer
     Answer {
         number: 0,
         place: 0,
-        bytes: layout::pack(value),
+        bytes: layout::pack(value.fields),
     }
 }
 

@@ -3,67 +3,55 @@ use mathlib.Core.Path.{_≡_, refl, sym, ap, _∙_}
 use mathlib.Core.Logic.{_⊎_, inl, inr}
 use mathlib.Core.List.{List, []}
 use Prim.Native.Nat.{ℕ}
-use native.Mathlib.Omega.{arith}
 use denote.Ref.{RefT}
-use Rattle.meaning.specs.Decimal.{Decimal, InRange}
-use Rattle.meaning.specs.Layout.{stored, bytesOf, decode, encode}
-use Rattle.meaning.specs.Reading.{Reading, readText}
+use borrow.Author.Tests.{ne-eqb}
+use Rattle.meaning.specs.Refusals.{Refusal}
+use Rattle.meaning.specs.Reading.{Reading, Located, readAt, readText}
 use Rattle.meaning.specs.Reading.Reading.{refused, accepted}
-use Rattle.meaning.specs.Answers.{numberGiven, bytesGiven}
-use Rattle.meaning.specs.Order.{Choice, choiceOf, chosen, larger}
+use Rattle.meaning.specs.Order.{Choice, relation, choiceOf, chosen, larger}
 use Rattle.meaning.specs.Order.Choice.{first, second, neither}
-use Rattle.meaning.proofs.Accepted.{reads-in-range}
-use Rattle.meaning.proofs.Bytes.{a-number-is-sixteen-bytes}
-use Rattle.meaning.proofs.Fields.{encodes-below, decodes-what-was-encoded}
-use Rattle.reading.proofs.Names.{number-some}
+use Rattle.layout.specs.Unpacked.{meant}
+use Rattle.reading.specs.Told as reading
+use Rattle.reading.specs.declared.answer.Answer.{Answer}
 use Rattle.comparing.specs.declared.Relation as comparing
 use Rattle.comparing.specs.Told.{told}
-use Rattle.decimal128.specs.declared.Answer.{Answer}
-use Rattle.decimal128.specs.Operations.{ReadAllows, storedRelation}
 use Rattle.larger.specs.Part.{slice, named, OneOfThreeSlices}
 
--- ---- the readings, by their numbers
+-- ---- a text's reading, by the number of its answer
+module _ (text : List ℕ) (x : Answer) (gives : reading.Gives (readAt text) x) where
+  reads : reading.told x .reading ≡ readText text
+  reads = ap (λ (a : Located). a .reading) (gives .tells)
 
-chosen-first : (r q : Reading) → (numberGiven r ≡ 0 → ⊥) → chosen r q ≡ neither
-unfolding numberGiven
-chosen-first (refused r) q n = refl
-chosen-first (accepted v) q n = absurd (n refl)
+  is-refused : (x .number ≡ 0 → ⊥) → readText text ≡ refused (reading.named (x .number))
+  unfolding reading.told
+  is-refused n = sym reads ∙ rw (ne-eqb (x .number) 0 n)
 
-chosen-second : (r q : Reading) → (numberGiven q ≡ 0 → ⊥) → chosen r q ≡ neither
-unfolding numberGiven
-chosen-second (refused r) q n = refl
-chosen-second (accepted v) (refused r) n = refl
-chosen-second (accepted v) (accepted w) n = absurd (n refl)
+  is-accepted : x .number ≡ 0 → readText text ≡ accepted (meant (x .value))
+  unfolding reading.told
+  is-accepted z = sym reads ∙ rw z
 
--- what was packed is unpacked as it was
-back : (v : Decimal) → InRange v → decode (stored (bytesOf 16 (encode v))) ≡ v
-back v h = ap decode (a-number-is-sixteen-bytes (encode v) (encodes-below v h) .1) ∙ decodes-what-was-encoded v h
-
-abbrev Ranged : Reading → Type 0
-Ranged r = (v : Decimal) → r ≡ accepted v → InRange v
-
-chosen-both : (r q : Reading) → Ranged r → Ranged q → numberGiven r ≡ 0 → numberGiven q ≡ 0 → chosen r q ≡ choiceOf (storedRelation (bytesGiven r) (bytesGiven q))
-unfolding numberGiven bytesGiven
-chosen-both (refused r) q g h e f = absurd (omega (arith, number-some r))
-chosen-both (accepted v) (refused q) g h e f = absurd (omega (arith, number-some q))
-chosen-both (accepted v) (accepted w) g h e f = rw (back v (g v refl), back w (h w refl))
+second-chosen : (r : Reading) (q : Refusal) → chosen r (refused q) ≡ neither
+second-chosen (refused r) q = refl
+second-chosen (accepted v) q = refl
 
 -- ---- what the calls say of two texts
 
-pub first-refused : (a b : List ℕ) (x : Answer) → ReadAllows a x → (x .number ≡ 0 → ⊥) → larger a b ≡ neither
+pub first-refused : (a b : List ℕ) (x : Answer) → reading.Gives (readAt a) x → (x .number ≡ 0 → ⊥) → larger a b ≡ neither
 unfolding larger
-first-refused a b x p n = chosen-first (readText a) (readText b) (λ z. n (ap (λ (v : Answer). v .number) p ∙ z))
+first-refused a b x p n = ap (λ (r : Reading). chosen r (readText b)) (is-refused a x p n)
 
-pub second-refused : (a b : List ℕ) (y : Answer) → ReadAllows b y → (y .number ≡ 0 → ⊥) → larger a b ≡ neither
+pub second-refused : (a b : List ℕ) (y : Answer) → reading.Gives (readAt b) y → (y .number ≡ 0 → ⊥) → larger a b ≡ neither
 unfolding larger
-second-refused a b y q n = chosen-second (readText a) (readText b) (λ z. n (ap (λ (v : Answer). v .number) q ∙ z))
+second-refused a b y q n =
+    ap (λ (r : Reading). chosen (readText a) r) (is-refused b y q n) ∙ second-chosen (readText a) (reading.named (y .number))
 
 -- r is what the comparison gives, s what it was found to be
-pub by-relation : (a b : List ℕ) (x y : Answer) {r s : comparing.Relation} → ReadAllows a x → ReadAllows b y → r ≡ s → x .number ≡ 0 → y .number ≡ 0 → told r ≡ storedRelation (x .bytes) (y .bytes) → larger a b ≡ choiceOf (told s)
+pub by-relation : (a b : List ℕ) (x y : Answer) {r s : comparing.Relation} → reading.Gives (readAt a) x → reading.Gives (readAt b) y → r ≡ s → x .number ≡ 0 → y .number ≡ 0 → told r ≡ relation (meant (x .value)) (meant (y .value)) → larger a b ≡ choiceOf (told s)
 unfolding larger
 by-relation a b x y p q d e f g =
-    chosen-both (readText a) (readText b) (reads-in-range a) (reads-in-range b) (rw p at e) (rw q at f)
-    ∙ ap choiceOf (sym (rw (p, q, d) at g))
+    ap (λ (r : Reading). chosen r (readText b)) (is-accepted a x p e)
+    ∙ ap (λ (r : Reading). chosen (accepted (meant (x .value))) r) (is-accepted b y q f)
+    ∙ ap choiceOf (sym g ∙ ap told d)
 
 -- the slice of a choice that is known
 pub picks : {c : Choice} (a b : RefT (List ℕ)) → larger (a .now) (b .now) ≡ c → named c a b ≡ named (larger (a .now) (b .now)) a b

@@ -16,17 +16,17 @@ fn empty_part(text: &[u8]) -> &[u8]
 pub fn larger<'a>(a: &'a [u8], b: &'a [u8]) -> &'a [u8]
     ensures { λ r. ⌜ LargerAllows (a .entry) (b .entry) r ⌝ }
 {
-    let x = decimal128::read(a);
+    let x = reading::read(a);
     if x.number != 0 {
         return empty_part(a);
     }
-    let y = decimal128::read(b);
+    let y = reading::read(b);
     if y.number != 0 {
         return empty_part(a);
     }
-    let v = x.bytes;
-    let w = y.bytes;
-    let relation = comparing::compare(&v, &w);
+    let u = x.value;
+    let v = y.value;
+    let relation = comparing::values(u, v);
     match relation {
         Relation::Less => b,
         Relation::Equal => a,

@@ -21,7 +21,7 @@ use Rattle.meaning.proofs.Numbers.{le-or}
 use Rattle.meaning.proofs.Fields.{encodes-finite, decodes-nan, decodes-infinity, decodes-second, decodes-first}
 use Rattle.limbs.specs.Value.{value}
 use Rattle.limbs.proofs.Laws.{value-four}
-use Rattle.layout.specs.Unpacked.{meantBy}
+use Rattle.layout.specs.Unpacked.{saidBy}
 use Rattle.layout.specs.declared.Kind.{Kind}
 use Rattle.layout.specs.declared.Kind.the-variants.{Finite}
 
@@ -136,8 +136,9 @@ pack-finite s e a b c d t f =
     ∙ ap (λ (n : ℕ). (bitOf s * 2 ^ 14 + e) * 2 ^ 113 + n) (sym (spread a b c d))
     ∙ sym (encodes-finite s e (value (a ∷ b ∷ c ∷ d ∷ [])))
 
--- what is asked of a finite value, in range of its limbs
-pub in-range : {k : Kind} (b : Bool) (e : ℕ) (w : List ℕ) → k ≡ Finite → InRange (meantBy k b e (value w)) → length w ≡ 4 → (e < 2 ^ 14) × (getD w 3 0 < 2 ^ 17)
-in-range {k} b e w f h l =
-    let g : (e ≤ 12287) × (value w < 10 ^ 34) = subst (λ (k : Kind). InRange (meantBy k b e (value w))) f h in
-    omega (arith, value-four w l)
+-- what is asked of a finite value, and the same of its limbs
+pub finite-range : {k : Kind} (b : Bool) (e n : ℕ) → k ≡ Finite → InRange (saidBy k b e n) → (e ≤ 12287) × (n < 10 ^ 34)
+finite-range b e n f h = subst (λ (k : Kind). InRange (saidBy k b e n)) f h
+
+pub in-range : {k : Kind} (b : Bool) (e : ℕ) (w : List ℕ) → k ≡ Finite → InRange (saidBy k b e (value w)) → length w ≡ 4 → (e < 2 ^ 14) × (getD w 3 0 < 2 ^ 17)
+in-range b e w f h l = omega (arith, finite-range b e (value w) f h, value-four w l)

@@ -4,7 +4,7 @@ ghost use Prim.Native.Nat.{_+_, _*_, _^_, _<_, _≤_};
 ghost use Rattle.meaning.specs.Decimal.{InRange, Decimal};
 ghost use Rattle.meaning.specs.Layout.{stored, bytesOf, orZero, decode, encode, bitOf};
 ghost use Rattle.limbs.specs.Value.{value};
-ghost use Rattle.layout.specs.Unpacked.{meant, meantBy};
+ghost use Rattle.layout.specs.Unpacked.{said, saidBy, meant, digitsOf, TrueCount};
 
 pub enum Kind {
     Nan { signalling: bool },
@@ -12,19 +12,26 @@ pub enum Kind {
     Finite,
 }
 
-// The exponent is the stored field, which is the exponent + 6176. A special value has exponent and coefficient 0.
-pub struct Unpacked {
+// What the bits say. The exponent is the stored field, which is the exponent + 6176. A special value has exponent and
+// coefficient 0.
+pub struct Fields {
     pub negative: bool,
     pub kind: Kind,
     pub exponent: u32,
     pub coefficient: [u32; 4],
 }
 
+// The same and how many decimal digits the coefficient has, 1 to 34; 1 for zero and for a special value.
+pub struct Unpacked {
+    pub fields: Fields,
+    pub digits: usize,
+}
+
 // A NaN or an infinity, and a finite value.
-pub fn special(negative: bool, kind: Kind) -> Unpacked
-    ensures { λ r. ⌜ meant r ≡ meantBy kind negative 0 0 ⌝ }
+pub fn special(negative: bool, kind: Kind) -> Fields
+    ensures { λ r. ⌜ said r ≡ saidBy kind negative 0 0 ⌝ }
 {
-    Unpacked {
+    Fields {
         negative: negative,
         kind: kind,
         exponent: 0,
@@ -32,10 +39,10 @@ pub fn special(negative: bool, kind: Kind) -> Unpacked
     }
 }
 
-pub fn finite(negative: bool, exponent: u32, coefficient: [u32; 4]) -> Unpacked
-    ensures { λ r. ⌜ meant r ≡ Decimal.finite negative exponent (value coefficient) ⌝ }
+pub fn finite(negative: bool, exponent: u32, coefficient: [u32; 4]) -> Fields
+    ensures { λ r. ⌜ said r ≡ Decimal.finite negative exponent (value coefficient) ⌝ }
 {
-    Unpacked {
+    Fields {
         negative: negative,
         kind: Kind::Finite,
         exponent: exponent,
@@ -73,8 +80,8 @@ fn or_zero(c: [u32; 4]) -> [u32; 4]
 }
 
 // rest is the highest limb without its sign bit; NaN, infinity and the second finite form begin at these numbers.
-fn unpack_words(w: [u32; 4]) -> Unpacked
-    ensures { λ r. ⌜ meant r ≡ decode (value w) ⌝ }
+fn fields_of_words(w: [u32; 4]) -> Fields
+    ensures { λ r. ⌜ said r ≡ decode (value w) ⌝ }
 {
     let top = w[3];
     let negative = 0x8000_0000 <= top;
@@ -97,10 +104,37 @@ fn unpack_words(w: [u32; 4]) -> Unpacked
     finite(negative, rest / 0x2_0000, or_zero(c))
 }
 
-pub fn unpack(b: [u8; 16]) -> Unpacked
-    ensures { λ r. ⌜ meant r ≡ decode (stored b) ⌝ }
+pub fn fields_of(b: [u8; 16]) -> Fields
+    ensures { λ r. ⌜ said r ≡ decode (stored b) ⌝ }
 {
-    unpack_words(words(b))
+    fields_of_words(words(b))
+}
+
+// What has no coefficient has one digit, as zero has.
+fn digits_of(f: Fields) -> usize
+    requires { ⌜ InRange (said f) ⌝ }
+    ensures { λ r. ⌜ r ≡ digitsOf (said f) ⌝ }
+{
+    let kind = f.kind;
+    match kind {
+        Kind::Nan { signalling: _ } => 1,
+        Kind::Infinity => 1,
+        Kind::Finite => {
+            let c = f.coefficient;
+            limbs::count::digits(c)
+        }
+    }
+}
+
+pub fn unpack(b: [u8; 16]) -> Unpacked
+    ensures { λ r. ⌜ (meant r ≡ decode (stored b)) × TrueCount r ⌝ }
+{
+    let f = fields_of(b);
+    let n = digits_of(f);
+    Unpacked {
+        fields: f,
+        digits: n,
+    }
 }
 
 // The bytes of four limbs, lowest first.
@@ -157,25 +191,25 @@ fn finite_top(negative: bool, exponent: u32, high: u32) -> u32
     bit_of(negative) * 0x8000_0000 + exponent * 0x2_0000 + high
 }
 
-fn pack_words(u: Unpacked) -> [u32; 4]
-    requires { ⌜ InRange (meant u) ⌝ }
-    ensures { λ r. ⌜ value r ≡ encode (meant u) ⌝ }
+fn pack_words(f: Fields) -> [u32; 4]
+    requires { ⌜ InRange (said f) ⌝ }
+    ensures { λ r. ⌜ value r ≡ encode (said f) ⌝ }
 {
-    let kind = u.kind;
+    let kind = f.kind;
     match kind {
-        Kind::Nan { signalling } => [0, 0, 0, nan_top(u.negative, signalling)],
-        Kind::Infinity => [0, 0, 0, infinity_top(u.negative)],
+        Kind::Nan { signalling } => [0, 0, 0, nan_top(f.negative, signalling)],
+        Kind::Infinity => [0, 0, 0, infinity_top(f.negative)],
         Kind::Finite => {
-            let c = u.coefficient;
-            [c[0], c[1], c[2], finite_top(u.negative, u.exponent, c[3])]
+            let c = f.coefficient;
+            [c[0], c[1], c[2], finite_top(f.negative, f.exponent, c[3])]
         }
     }
 }
 
 // Always the first finite form; what is not said is zero.
-pub fn pack(u: Unpacked) -> [u8; 16]
-    requires { ⌜ InRange (meant u) ⌝ }
-    ensures { λ r. ⌜ r ≡ bytesOf 16 (encode (meant u)) ⌝ }
+pub fn pack(f: Fields) -> [u8; 16]
+    requires { ⌜ InRange (said f) ⌝ }
+    ensures { λ r. ⌜ r ≡ bytesOf 16 (encode (said f)) ⌝ }
 {
-    bytes_of(pack_words(u))
+    bytes_of(pack_words(f))
 }

@@ -1,6 +1,6 @@
 -- Steps 7 to 9 in place: what is cut from the run and what is kept of it are runs themselves.
 use mathlib.Core.Path.{_≡_, refl, sym, ap, _∙_}
-use mathlib.Core.Bool.{Bool, cond}
+use mathlib.Core.Bool.{Bool, true, cond}
 use mathlib.Core.List.{List, [], _∷_, _++_}
 use Prim.Native.Nat.{ℕ, _+_, _-_, _*_, _≤_, _<_, min, max}
 use native.Mathlib.Omega.{arith}
@@ -9,10 +9,12 @@ use lib.Seq.{length-take-le}
 use Rattle.meaning.specs.Reading.{refusedAt, acceptedAs, low, high, allZeros, kept, lost, afterE, firstCut, step7, step8, step9, step11}
 use Rattle.meaning.specs.Decimal.Decimal.{finite}
 use Rattle.meaning.specs.Refusals.Refusal.{overflow, inexactRounding}
+use Rattle.meaning.proofs.Numbers.{Leading}
 use Rattle.limbs.specs.declared.wide.Stand.{Stand}
 use Rattle.limbs.specs.Wide.{standAt}
-use Rattle.reading.specs.Run.{run, counted, Offset}
-use Rattle.reading.proofs.Walk.{length-run, run-within, run-first, run-rest}
+use Rattle.reading.specs.Run.{run, counted, Offset, Leads}
+use Rattle.reading.proofs.Walk.{length-run, run-parts, run-within, run-first, run-rest}
+use Rattle.reading.proofs.Leading.{leads-take, leads-front}
 use Rattle.reading.proofs.Steps.{step9-below, step9-above, step9-left, step8-left, nearest-most, nearest-in, not-under, not-over}
 
 -- ---- where x stands
@@ -87,6 +89,13 @@ module _ (p i t : ℕ) (s : List ℕ) (h : i ≤ t) (l : t ≤ length s) (count 
     pub kept-length : length (run p i cut s) ≡ count - b
     kept-length = length-run p i cut s (oc .after) (omega (arith, cut-within, end-text)) ∙ oc .count
 
+    -- what is kept begins as the run does, where zeros are cut
+    pub kept-leads : Leads (take count (run p i t s)) count → allZeros (run p cut end s) ≡ true → Leads (run p i cut s) (count - b)
+    kept-leads f z =
+        leads-front (run p i cut s) (run p cut end s) count (count - b)
+        (rw (end-run, run-parts p i cut end s (oc .after) cut-within end-text) at f)
+        z kept-length
+
     -- steps 9 and 10, where x stands as q says
     module _ (text : List ℕ) (g : Bool) (n : ℕ) (q : Stand) (e : q ≡ standAt n) (few : count ≤ 34) (eb : b ≡ q .below) (hb : b ≤ count) (ha : count + q .above ≤ 34) where
       pub placed-left : step9 text g n (take count (run p i t s)) ≡ cond (allZeros (run p cut end s)) (step11 text g (low + q .field) (run p i cut s ++ replicate (q .above) 48)) (refusedAt inexactRounding (firstCut (count - b) text))
@@ -125,6 +134,10 @@ module _ (p i t : ℕ) (s : List ℕ) (h : i ≤ t) (l : t ≤ length s) (count 
 
   pub keep-most : keep ≤ length (run p i t s)
   keep-most = rw (← all) (min-most count 34 keep ek)
+
+  -- a run that begins with no zero
+  pub keep-leads : Leading (run p i t s) → (count ≡ 0 → ⊥) → Leads (take keep (run p i t s)) keep
+  keep-leads f z = leads-take (run p i t s) keep f (omega arith) keep-most
 
   pub keep-within : end ≤ t
   keep-within = run-within p i keep end t s o h l keep-most

@@ -1,5 +1,6 @@
 pub mod Bytes
 pub mod Pass
+pub mod Leading
 pub mod Walk
 pub mod Letters
 pub mod Split

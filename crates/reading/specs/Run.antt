@@ -38,6 +38,12 @@ pub record ZerosTo (p i t : ℕ) (s : List ℕ) (r : ℕ) : Type 0 where
   pub zeros : allZeros (run p i t s) ≡ eqb r t
   pub apart : r < t → r ≡ p → ⊥
 
+-- a run of n bytes, at least one, that begins with no zero
+pub record Leads (r : List ℕ) (n : ℕ) : Type 0 where
+  pub count : length r ≡ n
+  pub some : 1 ≤ n
+  pub first : stripZeros r ≡ r
+
 -- the run from i up to the stop can be walked: digits and points, and `second` is where its first point stands, if it has one
 pub record Walked (s : List ℕ) (i : ℕ) (d : Spans) : Type 0 where
   pub ordered : i ≤ d .stop

@@ -8,7 +8,7 @@ use Rattle.meaning.specs.Refusals.Refusal.{emptyExponent, invalidExponent, inva
 use Rattle.meaning.specs.Decimal.{InRange}
 use Rattle.meaning.specs.Reading.{Located}
 use Rattle.meaning.specs.Reading.Reading.{refused, accepted}
-use Rattle.layout.specs.Unpacked.{meant}
+use Rattle.layout.specs.Unpacked.{meant, TrueCount}
 use Rattle.reading.specs.declared.answer.Answer.{Answer}
 
 -- the refusal of a number
@@ -32,7 +32,8 @@ told r =
       place = r .place;
     }
 
--- an answer tells what is read and the place, and carries a value that can be packed
+-- an answer tells what is read and the place, and carries a value that can be packed and whose count is true
 pub record Gives (a : Located) (r : Answer) : Type 0 where
   pub tells : told r ≡ a
   pub ranged : InRange (meant (r .value))
+  pub counted : TrueCount (r .value)

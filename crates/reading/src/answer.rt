@@ -1,11 +1,14 @@
 // The answers of the reader.
+ghost use mathlib.Core.Path.{_≡_};
 ghost use Prim.Native.Nat.{_^_, _<_, _≤_};
 ghost use Rattle.limbs.specs.Value.{value};
+ghost use Rattle.limbs.specs.Count.{Counts};
 ghost use Rattle.meaning.specs.Reading as meaning;
 ghost use Rattle.meaning.specs.Decimal as decimal;
 ghost use Rattle.meaning.specs.Decimal.{InRange};
-ghost use Rattle.layout.specs.Unpacked.{meant};
+ghost use Rattle.layout.specs.Unpacked.{said, digitsOf};
 ghost use Rattle.reading.specs.Told.{named, Gives};
+use layout::Fields;
 use layout::Kind;
 use layout::Unpacked;
 
@@ -36,22 +39,23 @@ pub fn refused(number: u32, place: usize) -> Answer
         number: number,
         place: place,
         value: Unpacked {
-            negative: false,
-            kind: Kind::Finite,
-            exponent: 0,
-            coefficient: [0, 0, 0, 0],
+            fields: layout::finite(false, 0, [0, 0, 0, 0]),
+            digits: 1,
         },
     }
 }
 
 // A value.
-fn accepted(value: Unpacked) -> Answer
-    ensures { λ r. ⌜ (InRange (meant value) → Gives (meaning.acceptedAs (meant value)) r) ⌝ }
+fn accepted(fields: Fields, digits: usize) -> Answer
+    ensures { λ r. ⌜ (InRange (said fields) → digits ≡ digitsOf (said fields) → Gives (meaning.acceptedAs (said fields)) r) ⌝ }
 {
     Answer {
         number: 0,
         place: 0,
-        value: value,
+        value: Unpacked {
+            fields: fields,
+            digits: digits,
+        },
     }
 }
 
@@ -59,36 +63,22 @@ fn accepted(value: Unpacked) -> Answer
 pub fn nan(negative: bool, signalling: bool) -> Answer
     ensures { λ r. ⌜ Gives (meaning.acceptedAs (decimal.Decimal.nan negative signalling)) r ⌝ }
 {
-    accepted(Unpacked {
-        negative: negative,
-        kind: Kind::Nan {
-            signalling: signalling,
-        },
-        exponent: 0,
-        coefficient: [0, 0, 0, 0],
-    })
+    let kind = Kind::Nan {
+        signalling: signalling,
+    };
+    accepted(layout::special(negative, kind), 1)
 }
 
 // Infinity, with its sign.
 pub fn infinity(negative: bool) -> Answer
     ensures { λ r. ⌜ Gives (meaning.acceptedAs (decimal.Decimal.infinity negative)) r ⌝ }
 {
-    accepted(Unpacked {
-        negative: negative,
-        kind: Kind::Infinity,
-        exponent: 0,
-        coefficient: [0, 0, 0, 0],
-    })
+    accepted(layout::special(negative, Kind::Infinity), 1)
 }
 
-// A number, where its field and coefficient are those of the format.
-pub fn finite(negative: bool, field: u32, c: [u32; 4]) -> Answer
-    ensures { λ r. ⌜ (field ≤ 12287 → value c < 10 ^ 34 → Gives (meaning.acceptedAs (decimal.Decimal.finite negative field (value c))) r) ⌝ }
+// A number, where its field and coefficient are those of the format and its digits are counted right.
+pub fn finite(negative: bool, field: u32, c: [u32; 4], digits: usize) -> Answer
+    ensures { λ r. ⌜ (field ≤ 12287 → value c < 10 ^ 34 → Counts (value c) digits → Gives (meaning.acceptedAs (decimal.Decimal.finite negative field (value c))) r) ⌝ }
 {
-    accepted(Unpacked {
-        negative: negative,
-        kind: Kind::Finite,
-        exponent: field,
-        coefficient: c,
-    })
+    accepted(layout::finite(negative, field, c), digits)
 }

@@ -2,9 +2,9 @@
 use layout::Kind;
 use layout::Unpacked;
 ghost use mathlib.Core.Path.{_≡_};
-ghost use Prim.Native.Nat.{_^_, _<_, _≤_};
+ghost use Prim.Native.Nat.{_≤_};
 ghost use Rattle.limbs.specs.Value.{value};
-ghost use Rattle.layout.specs.Unpacked.{meant};
+ghost use Rattle.layout.specs.Unpacked.{meant, TrueCount};
 ghost use Rattle.meaning.specs.Decimal.{InRange};
 ghost use Rattle.meaning.specs.Writing.{decimal, plain, magnitude, signed, writeText, debugText};
 ghost use Rattle.meaning.specs.Reading.{bytes};
@@ -61,11 +61,10 @@ fn plain(buf: &mut [u8], negative: bool, c: [u32; 4], k: usize, p: usize) -> Put
 }
 
 // A finite value; the field is the exponent + 6176, and f the exponent of the first digit + 6177.
-fn finite(buf: &mut [u8], negative: bool, field: u32, c: [u32; 4]) -> Put
-    requires { ⌜ (field ≤ 12287) × (value c < 10 ^ 34) ⌝ }
+fn finite(buf: &mut [u8], negative: bool, field: u32, c: [u32; 4], k: usize) -> Put
+    requires { ⌜ (field ≤ 12287) × Sized (value c) k ⌝ }
     ensures { λ r. ⌜ Puts (signed negative (magnitude (decimal (value c)) field)) (now (buf .entry)) r (now (buf .exit)) ⌝ }
 {
-    let k = limbs::count::digits(c);
     let f = field + k as u32;
     if field <= 6176 && 6171 <= f {
         return plain(buf, negative, c, k, (6176 - field) as usize);
@@ -75,17 +74,18 @@ fn finite(buf: &mut [u8], negative: bool, field: u32, c: [u32; 4]) -> Put
 
 // The text of a value.
 pub fn write(u: Unpacked, buf: &mut [u8]) -> Put
-    requires { ⌜ InRange (meant u) ⌝ }
+    requires { ⌜ InRange (meant u) × TrueCount u ⌝ }
     ensures { λ r. ⌜ r ≡ putOf (writeText (meant u)) (now (buf .entry)) ⌝ }
     ensures { λ _. ⌜ now (buf .exit) ≡ placed (writeText (meant u)) (now (buf .entry)) ⌝ }
 {
-    let kind = u.kind;
+    let f = u.fields;
+    let kind = f.kind;
     match kind {
         Kind::Nan { signalling: _ } => text(buf, b"NaN"),
-        Kind::Infinity => infinity(buf, u.negative),
+        Kind::Infinity => infinity(buf, f.negative),
         Kind::Finite => {
-            let c = u.coefficient;
-            finite(buf, u.negative, u.exponent, c)
+            let c = f.coefficient;
+            finite(buf, f.negative, f.exponent, c, u.digits)
         }
     }
 }

@@ -1,7 +1,7 @@
 use borrow.Author.Needs.{needs}
 use borrow.Author.Tests.{not-true, not-false}
 use mathlib.Core.Path.{sym, _∙_}
-use Rattle.comparing.proofs.Signs.{of-finite, unpacked, finite-ranged}
+use Rattle.comparing.proofs.Signs.{of-finite, stored-fields, stored-ranged, finite-ranged}
 use Rattle.comparing.proofs.compare.Statement.{statement}
 use Rattle.comparing.proofs.compare.Tie as tie
 
@@ -9,7 +9,7 @@ special-requires : tie.Need-special-requires
 special-requires c κs = sym (c .before .before .before .is-finite .ensures) ∙ not-true _ (c .before .before .if1 .taken)
 
 returns : tie.Need-returns
-returns c = c .special .ensures ∙ unpacked _ _ _ _ (c .before .before .before .before .before .unpack .ensures) (c .before .unpack2 .ensures)
+returns c = c .special .ensures ∙ stored-fields _ _ _ _ (c .before .before .before .before .before .fields-of .ensures) (c .before .fields-of2 .ensures)
 
 beside-requires : tie.Need-beside-requires
 beside-requires c κs = sym (c .before .is-finite2 .ensures) ∙ not-true _ (c .if2 .taken)
@@ -17,19 +17,19 @@ beside-requires c κs = sym (c .before .is-finite2 .ensures) ∙ not-true _ (c .
 returns-2 : tie.Need-returns-2
 returns-2 c =
     let f = sym (c .before .before .before .before .before .before .is-finite .ensures) ∙ not-false _ (c .before .before .before .before .before .if1 .left) in
-    c .beside .ensures _ f ∙ unpacked _ _ _ _ (c .before .before .before .before .before .before .before .unpack .ensures) (c .before .before .before .unpack3 .ensures)
+    c .beside .ensures _ f ∙ stored-fields _ _ _ _ (c .before .before .before .before .before .before .before .fields-of .ensures) (c .before .before .before .fields-of3 .ensures)
 
 finite-requires : tie.Need-finite-requires
 finite-requires c κs =
     let f = sym (c .before .before .before .before .before .is-finite .ensures) ∙ not-false _ (c .before .before .before .before .if1 .left) in
     let g = sym (c .before .is-finite2 .ensures) ∙ not-false _ (c .if2 .left) in
-    (finite-ranged _ _ (c .before .before .before .before .before .before .unpack .ensures) f, finite-ranged _ _ (c .before .before .unpack3 .ensures) g)
+    (finite-ranged _ (stored-ranged _ _ (c .before .before .before .before .before .before .fields-of .ensures)) f, finite-ranged _ (stored-ranged _ _ (c .before .before .fields-of3 .ensures)) g)
 
 returns-3 : tie.Need-returns-3
 returns-3 c =
     let f = sym (c .before .before .before .before .before .before .is-finite .ensures) ∙ not-false _ (c .before .before .before .before .before .if1 .left) in
     let g = sym (c .before .before .is-finite2 .ensures) ∙ not-false _ (c .before .if2 .left) in
-    c .finite .ensures ∙ of-finite _ _ f g ∙ unpacked _ _ _ _ (c .before .before .before .before .before .before .before .unpack .ensures) (c .before .before .before .unpack3 .ensures)
+    c .finite .ensures ∙ of-finite _ _ f g ∙ stored-fields _ _ _ _ (c .before .before .before .before .before .before .before .fields-of .ensures) (c .before .before .before .fields-of3 .ensures)
 
 pub compare-spec : {M : Type 1} → statement M
 compare-spec =

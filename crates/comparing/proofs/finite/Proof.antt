@@ -1,7 +1,7 @@
 use borrow.Author.Needs.{needs}
 use borrow.Author.Tests.{not-true, not-false}
 use mathlib.Core.Path.{_∙_}
-use Rattle.comparing.proofs.Signs.{agree, differ, opposites, both-negative, none-negative}
+use Rattle.comparing.proofs.Signs.{agree, differ, opposites, of-one-sign}
 use Rattle.comparing.proofs.finite.Statement.{statement}
 use Rattle.comparing.proofs.finite.Tie as tie
 
@@ -10,23 +10,9 @@ returns c = c .opposite .ensures ∙ opposites _ _ _ _ _ _ (differ (c .before .b
 
 returns-2 : tie.Need-returns-2
 returns-2 c =
-    c .relation-of .ensures
-    ∙ both-negative _ _ _ _ _ _ (c .before .before .if2 .taken) (agree _ _ (not-false _ (c .before .before .before .before .if1 .left))) (c .before .turned .ensures) (c .before .before .before .magnitudes .ensures)
-
-returns-3 : tie.Need-returns-3
-returns-3 c =
-    c .relation-of2 .ensures
-    ∙ none-negative _ _ _ _ _ _ (c .before .if2 .left) (agree _ _ (not-false _ (c .before .before .before .if1 .left))) (c .before .before .magnitudes .ensures)
+    c .with-sign .ensures
+    ∙ of-one-sign _ _ _ _ _ _ (agree _ _ (not-false _ (c .before .before .if1 .left))) (c .before .magnitudes .ensures)
 
 pub finite-spec : {M : Type 1} → statement M
 finite-spec =
-    tie.close
-    (tie.spec
-    (λ c κs. search needs)
-    returns
-    (λ c κs. search needs)
-    (λ c κs. search needs)
-    (λ c κs. search needs)
-    returns-2
-    (λ c κs. search needs)
-    returns-3)
+    tie.close (tie.spec (λ c κs. search needs) returns (λ c κs. search needs) (λ c κs. search needs) returns-2)

@@ -1,11 +1,11 @@
 use mathlib.Core.Path.{refl}
-use Rattle.layout.specs.Unpacked.{meant}
+use Rattle.layout.specs.Unpacked.{said}
 use borrow.Author.Needs.{needs}
 use Rattle.layout.proofs.finite.Statement.{statement}
 use Rattle.layout.proofs.finite.Tie as tie
 
 returns : tie.Need-returns
-unfolding meant
+unfolding said
 returns c = refl
 
 pub finite-spec : {M : Type 1} → statement M

@@ -9,12 +9,13 @@ use Rattle.decimal128.proofs.Decimal128.write.Statement.{statement}
 use Rattle.decimal128.proofs.Decimal128.write.Tie as tie
 
 write-requires : tie.Need-write-requires
-write-requires c κs = subst (λ (d : Decimal). InRange d) (sym (c .before .unpack .ensures)) (decodes-in-range _)
+write-requires c κs =
+    let u = c .before .unpack .ensures in (subst (λ (d : Decimal). InRange d) (sym (u .0)) (decodes-in-range _), u .1)
 
 returns : tie.Need-returns
 returns c =
     let w = c .before .before .write .ensures in
-    puts-same (ap writeText (c .before .before .before .before .unpack .ensures)) (record { answer = w .0; buffer = w .1 })
+    puts-same (ap writeText (c .before .before .before .before .unpack .ensures .0)) (record { answer = w .0; buffer = w .1 })
 
 pub write-spec : {M : Type 1} → statement M
 write-spec = tie.close (tie.spec (λ c κs. search needs) write-requires (λ c. search needs) returns)

@@ -25,6 +25,10 @@ returns-2 c =
     subst (λ (l : List ℕ). Puts (recordText (acceptedAs (meant (s .args .value)))) (s .args .buf .now) NoRoom l) (sym (k .1))
     (record-none (meant (s .args .value)) (s .args .buf .now) (k .0))
 
+pack-requires : tie.Need-pack-requires
+unfolding meant
+pack-requires c κs = search needs
+
 -- there is room for the text of n bytes and what is put around it
 fits : (c : tie.After-put-two-arg) → c .before .before .before .before .before .before .before .put .given .0 .0 + 38 ≤ length (c .before .before .before .before .before .before .before .before .before .before .before .before .before .before .before .args .buf .now)
 fits c =
@@ -50,6 +54,7 @@ same-length-2 : tie.Need-same-length-2
 same-length-2 c = simp length-set (search needs)
 
 returns-3 : tie.Need-returns-3
+unfolding meant
 returns-3 c =
     let f = c .before .before .before .before .before .before in
     let p = f .before .before .before .before in
@@ -68,7 +73,7 @@ accepted-spec =
     (λ c. search needs)
     (λ c. search needs)
     returns-2
-    (λ c κs. search needs)
+    pack-requires
     (λ c κs. search needs)
     add-put-two
     put-two-requires

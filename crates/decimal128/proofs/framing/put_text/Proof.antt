@@ -10,7 +10,7 @@ returns : tie.Need-returns
 returns c =
     let s = c .before .before .before .before .before in
     let w = c .before .before .write .ensures in
-    text-in _ (s .args .buf .now) _ _ (length (s .args .buf .now) - 3 - 35) (omega (arith, s .pre .1)) (w .0) (w .1)
+    text-in _ (s .args .buf .now) _ _ (length (s .args .buf .now) - 3 - 35) (omega (arith, s .pre .2)) (w .0) (w .1)
 
 pub put-text-spec : {M : Type 1} → statement M
 put-text-spec =

@@ -3,6 +3,7 @@ use native.Mathlib.Omega.{arith}
 use borrow.Author.Needs.{needs}
 use Rattle.limbs.proofs.Shifts.{stands-raised}
 use Rattle.reading.specs.Run.{Short}
+use Rattle.reading.proofs.Leading.{strip-counts}
 use Rattle.reading.proofs.Points.{stop-low, points-width, short-digits, short-length}
 use Rattle.reading.proofs.Cut.{stands-in, field-most}
 use Rattle.reading.proofs.Steps.{steps-short, number-most}
@@ -26,7 +27,7 @@ whole-requires c κs =
 
 returns : tie.Need-returns
 returns c = λ n k.
-    let b = c .before .before in
+    let b = c .before .before .before in
     let a = b .before .before .before .before .before in
     let h = short b in
     let q = b .before .before .before .place .ensures n (stands-raised n (a .args .x) k) in
@@ -34,8 +35,9 @@ returns c = λ n k.
     let d = short-digits _ _ _ (a .pre .0) (a .pre .1) (h .one) (a .args .d .stop) (stop-low _ _ _ (a .pre .0) (a .pre .1)) (omega arith) in
     let l = short-length _ _ _ (a .pre .0) (a .pre .1) (h .one) in
     let m = rw (← l) at (h .few) in
-    let e = c .before .whole .ensures in
-    rw (steps-short _ (a .args .negative) n (r .0) (r .1) _ d m, ← e, ← r .2) (c .finite .ensures (field-most n _ q) (rw e (number-most _ d m)))
+    let e = c .before .before .whole .ensures in
+    rw (steps-short _ (a .args .negative) n (r .0) (r .1) _ d m, ← e, ← r .2)
+    (c .finite .ensures (field-most n _ q) (rw e (number-most _ d m)) (rw (e, c .before .digits .ensures) (strip-counts _ d)))
 
 rounded-requires : tie.Need-rounded-requires
 rounded-requires c κs = let a = c .before .before .before .before .before in a .pre
@@ -48,6 +50,7 @@ finite-spec =
     sub-is-short
     is-short-requires
     whole-requires
+    (λ c κs. search needs)
     (λ c κs. search needs)
     returns
     rounded-requires

@@ -11,8 +11,9 @@ use Rattle.limbs.specs.declared.wide.Stand.{Stand}
 use Rattle.limbs.specs.Wide.{Raised}
 use Rattle.reading.specs.Run.{run}
 use Rattle.reading.specs.Told.{named}
+use Rattle.reading.proofs.Leading.{leads-most}
 use Rattle.reading.proofs.Walk.{zeros-not, zeros-only}
-use Rattle.reading.proofs.Cut.{run-short, cut-within, end-within, kept-length, placed-below, placed-above, placed-left, field-most}
+use Rattle.reading.proofs.Cut.{run-short, cut-within, end-within, kept-leads, placed-below, placed-above, placed-left, field-most}
 use Rattle.reading.proofs.round.placed.Statement.{statement}
 use Rattle.reading.proofs.round.placed.Tie as tie
 
@@ -32,30 +33,28 @@ lost-of c = run (start c .args .d .found .point) (c .before .after .result) (c .
 abbrev kept-of : tie.After-after2 → List ℕ
 kept-of c = run (start c .args .d .found .point) (start c .args .first) (c .before .after .result) (start c .args .s .now)
 
+most : (a : tie.Start) → a .args .count ≤ length (run (a .args .d .found .point) (a .args .first) (a .args .d .stop) (a .args .s .now))
+most a = leads-most _ _ (a .pre .2)
+
 -- the first `count` bytes stand in the text
 room : (a : tie.Start) → a .args .first + a .args .count < 2 ^ 63
 room a =
-    omega (arith, a .good .0 .1, a .pre .2, a .pre .0 .ordered, a .pre .0 .within, run-short (a .args .d .found .point) (a .args .first) (a .args .d .stop) (a .args .s .now) (a .pre .0 .ordered) (a .pre .0 .within))
+    omega (arith, a .good .0 .1, most a, a .pre .0 .ordered, a .pre .0 .within, run-short (a .args .d .found .point) (a .args .first) (a .args .d .stop) (a .args .s .now) (a .pre .0 .ordered) (a .pre .0 .within))
 
 inside : (c : tie.After-after2) → c .before .after .result ≤ c .after2 .result
 inside c =
     let a = start c in
-    cut-within _ _ _ _ (a .pre .0 .ordered) (a .pre .0 .within) _ (a .pre .2) _ _ _ (c .after2 .ensures) (c .before .after .ensures)
+    cut-within _ _ _ _ (a .pre .0 .ordered) (a .pre .0 .within) _ (most a) _ _ _ (c .after2 .ensures) (c .before .after .ensures)
 
 outside : (c : tie.After-after2) → c .after2 .result ≤ start c .args .d .stop
 outside c =
     let a = start c in
-    end-within _ _ _ _ (a .pre .0 .ordered) (a .pre .0 .within) _ (a .pre .2) _ _ _ (c .after2 .ensures) (c .before .after .ensures)
-
-room-left : (c : tie.After-after2) → length (kept-of c) + stand c .above ≤ 34
-room-left c =
-    let a = start c in
-    omega (arith, c .before .before .if2 .left, kept-length _ _ _ _ (a .pre .0 .ordered) (a .pre .0 .within) _ (a .pre .2) _ _ _ (c .after2 .ensures) (c .before .after .ensures))
+    end-within _ _ _ _ (a .pre .0 .ordered) (a .pre .0 .within) _ (most a) _ _ _ (c .after2 .ensures) (c .before .after .ensures)
 
 left : (c : tie.After-after2) (n : ℕ) → Raised n (start c .args .x) → step9 (start c .args .s .now) (start c .args .negative) n (take (start c .args .count) (run-of c)) ≡ cond (allZeros (lost-of c)) (step11 (start c .args .s .now) (start c .args .negative) (low + stand c .field) (kept-of c ++ replicate (stand c .above) 48)) (refusedAt inexactRounding (firstCut (start c .args .count - stand c .below) (start c .args .s .now)))
 left c n k =
     let a = start c in
-    placed-left _ _ _ _ (a .pre .0 .ordered) (a .pre .0 .within) _ (a .pre .2) _ _ _ (c .after2 .ensures) (c .before .after .ensures) (a .args .s .now) (a .args .negative) n _ (c .before .before .before .before .before .before .place .ensures n k) (a .pre .1) refl (c .before .before .before .if1 .left) (c .before .before .if2 .left)
+    placed-left _ _ _ _ (a .pre .0 .ordered) (a .pre .0 .within) _ (most a) _ _ _ (c .after2 .ensures) (c .before .after .ensures) (a .args .s .now) (a .args .negative) n _ (c .before .before .before .before .before .before .place .ensures n k) (a .pre .1) refl (c .before .before .before .if1 .left) (c .before .before .if2 .left)
 
 after-e-requires : tie.Need-after-e-requires
 after-e-requires c κs = c .before .before .before .before .before .pre .0 .within
@@ -64,7 +63,7 @@ returns : tie.Need-returns
 unfolding named
 returns c = λ n k.
     let a = c .before .before .before .before .before .before .before in
-    rw (placed-below _ _ _ _ (a .pre .0 .ordered) (a .pre .0 .within) _ (a .pre .2) (a .args .s .now) _ n _ (c .before .before .before .before .before .place .ensures n k) (a .pre .1) (c .before .before .if1 .taken), a .pre .3 .letter, ← c .before .after-e .ensures)
+    rw (placed-below _ _ _ _ (a .pre .0 .ordered) (a .pre .0 .within) _ (most a) (a .args .s .now) _ n _ (c .before .before .before .before .before .place .ensures n k) (a .pre .1) (c .before .before .if1 .taken), a .pre .3 .letter, ← c .before .after-e .ensures)
     (c .refused .ensures)
 
 after-e-requires-2 : tie.Need-after-e-requires-2
@@ -74,7 +73,7 @@ returns-2 : tie.Need-returns-2
 unfolding named
 returns-2 c = λ n k.
     let a = c .before .before .before .before .before .before .before .before in
-    rw (placed-above _ _ _ _ (a .pre .0 .ordered) (a .pre .0 .within) _ (a .pre .2) (a .args .s .now) _ n _ (c .before .before .before .before .before .before .place .ensures n k) (a .pre .1) (c .before .before .if2 .taken), a .pre .3 .letter, ← c .before .after-e2 .ensures)
+    rw (placed-above _ _ _ _ (a .pre .0 .ordered) (a .pre .0 .within) _ (most a) (a .args .s .now) _ n _ (c .before .before .before .before .before .before .place .ensures n k) (a .pre .1) (c .before .before .if2 .taken), a .pre .3 .letter, ← c .before .after-e2 .ensures)
     (c .refused2 .ensures)
 
 after-requires : tie.Need-after-requires
@@ -98,7 +97,9 @@ kept-requires : tie.Need-kept-requires
 kept-requires c κs =
     let d = c .before .before in
     let a = start d in
-    ((a .pre .0, d .before .after .ensures .after, omega (arith, inside d, outside d), a .pre .3), room-left d)
+    let z = zeros-only _ _ _ _ _ (c .before .first-other .ensures) (c .if3 .left) in
+    let k = kept-leads _ _ _ _ (a .pre .0 .ordered) (a .pre .0 .within) _ (most a) _ _ _ (d .after2 .ensures) (d .before .after .ensures) (a .pre .2) z in
+    ((a .pre .0, d .before .after .ensures .after, omega (arith, inside d, outside d), a .pre .3), (k, omega (arith, d .before .before .if2 .left)))
 
 returns-4 : tie.Need-returns-4
 returns-4 c = λ n k.

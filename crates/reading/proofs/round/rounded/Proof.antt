@@ -1,4 +1,4 @@
-use mathlib.Core.Path.{_≡_, sym, ap, _∙_}
+use mathlib.Core.Path.{_≡_, sym, ap, subst, _∙_}
 use mathlib.Core.Bool.{cond}
 use mathlib.Core.List.{List}
 use Prim.Native.Nat.{ℕ, _+_, _-_, _^_, _≤_, _<_}
@@ -8,14 +8,16 @@ use lib.ListN.{length, take}
 use borrow.Author.Needs.{needs}
 use Rattle.meaning.specs.Reading.{refusedAt, allZeros, stripZeros, firstCut, step7, step9}
 use Rattle.meaning.specs.Refusals.Refusal.{inexactRounding}
+use Rattle.meaning.proofs.Numbers.{Leading, strip-leading}
 use Rattle.limbs.proofs.Shifts.{stands-raised}
-use Rattle.reading.specs.Run.{run, ZerosTo}
+use Rattle.reading.specs.Run.{run, ZerosTo, Leads}
 use Rattle.reading.specs.Told.{named}
 use Rattle.reading.specs.Parted.{Placed}
+use Rattle.reading.proofs.Leading.{zero-counts}
 use Rattle.reading.proofs.Walk.{length-run, zeros-not, zeros-only}
 use Rattle.reading.proofs.Points.{stop-low, stop-within, walked, walked-from}
 use Rattle.reading.proofs.Where.{placed}
-use Rattle.reading.proofs.Cut.{counted-most, sum-fits, keep-within, keep-most, step7-none, step7-some, rounded-left, field-most}
+use Rattle.reading.proofs.Cut.{counted-most, sum-fits, keep-within, keep-leads, step7-none, step7-some, rounded-left, field-most}
 use Rattle.reading.proofs.round.rounded.Statement.{statement}
 use Rattle.reading.proofs.round.rounded.Tie as tie
 
@@ -53,9 +55,10 @@ within : (c : tie.After-after) → c .after .result ≤ start c .args .d .stop
 within c =
     keep-within _ _ _ (start c .args .s .now) (zeros c .within) (text-within (start c)) _ _ _ (c .before .before .before .count .ensures) (c .before .least .ensures) (c .after .ensures)
 
-most : (c : tie.After-after) → keep c ≤ length (run-of c (first c))
-most c =
-    keep-most _ _ _ (start c .args .s .now) (zeros c .within) (text-within (start c)) _ _ _ (c .before .before .before .count .ensures) (c .before .least .ensures) (c .after .ensures)
+leads : (c : tie.After-after) → Leads (take (keep c) (run-of c (first c))) (keep c)
+leads c =
+    let l = subst Leading (zeros c .strip) (strip-leading (run-of c (start c .args .start))) in
+    keep-leads _ _ _ (start c .args .s .now) (zeros c .within) (text-within (start c)) _ _ _ (c .before .before .before .count .ensures) (c .before .least .ensures) (c .after .ensures) l (c .before .before .if1 .left)
 
 left : (c : tie.After-after) (n : ℕ) → step7 (start c .args .s .now) (start c .args .negative) n (stripZeros (run-of c (start c .args .start))) ≡ cond (allZeros (run-of c (c .after .result))) (step9 (start c .args .s .now) (start c .args .negative) (n + (count c - keep c)) (take (keep c) (run-of c (first c)))) (refusedAt inexactRounding (firstCut (keep c) (start c .args .s .now)))
 left c n =
@@ -77,7 +80,7 @@ returns c = λ n k.
     let z = c .before .before .before .before .first-other .ensures in
     let q = c .before .place .ensures n (stands-raised n (a .args .x) k) in
     let e = length-run _ _ _ _ (z .within) (text-within a) ∙ sym (c .before .before .before .count .ensures) ∙ c .before .before .if1 .taken in
-    rw (z .strip, step7-none _ (a .args .negative) n _ _ e q) (c .finite .ensures (field-most n _ q) (lit< tt))
+    rw (z .strip, step7-none _ (a .args .negative) n _ _ e q) (c .finite .ensures (field-most n _ q) (lit< tt) zero-counts)
 
 after-requires : tie.Need-after-requires
 after-requires c κs = omega (arith, room (c .before .before), c .least .ensures)
@@ -103,7 +106,7 @@ placed-requires : tie.Need-placed-requires
 placed-requires c κs =
     let d = c .before .before .before in
     let a = start d in
-    (walked-from _ _ _ (walked _ _ _ (a .pre .0) (a .pre .1)) _ (zeros d), omega (arith, d .before .least .ensures), most d, placed-at d)
+    (walked-from _ _ _ (walked _ _ _ (a .pre .0) (a .pre .1)) _ (zeros d), omega (arith, d .before .least .ensures), leads d, placed-at d)
 
 returns-3 : tie.Need-returns-3
 returns-3 c = λ n k.

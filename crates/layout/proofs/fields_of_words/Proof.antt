@@ -8,8 +8,8 @@ use Rattle.meaning.specs.Layout.{orZero}
 use Rattle.limbs.specs.Value.{value}
 use Rattle.layout.proofs.Laws.{top-bits, low-bits, decode-nan, decode-infinity, decode-second, decode-first}
 use borrow.Author.Needs.{needs}
-use Rattle.layout.proofs.unpack_words.Statement.{statement}
-use Rattle.layout.proofs.unpack_words.Tie as tie
+use Rattle.layout.proofs.fields_of_words.Statement.{statement}
+use Rattle.layout.proofs.fields_of_words.Tie as tie
 
 limb : (s : tie.Start) (i : ℕ) → Fits w32 (getD (s .args .t1) i 0)
 limb s i = search needs
@@ -34,8 +34,8 @@ returns-4 c =
     ∙ decode-first _ _ (limb s 3) (at-top s) (omega arith) _
     (c .before .or-zero .ensures ∙ ap orZero (low-bits (s .args .t1) (search needs) (limb s)))
 
-pub unpack-words-spec : {M : Type 1} → statement M
-unpack-words-spec =
+pub fields-of-words-spec : {M : Type 1} → statement M
+fields-of-words-spec =
     tie.close
     (tie.spec
     (λ c. search needs)
