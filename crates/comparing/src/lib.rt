@@ -8,7 +8,6 @@ ghost use mathlib.Core.Bool.{true, false, not, cond};
 ghost use Prim.Native.Nat.{_*_, _^_, _≤_, _<_};
 ghost use lib.Dec.{eqb};
 ghost use Rattle.limbs.specs.Value.{value};
-ghost use Rattle.limbs.specs.Count.{Counts};
 ghost use Rattle.limbs.specs.Order.{order};
 ghost use Rattle.layout.specs.Unpacked.{said, meant, TrueCount};
 ghost use Rattle.layout.specs.declared.Fields as declared;
@@ -17,7 +16,7 @@ ghost use Rattle.meaning.specs.Decimal.{InRange};
 ghost use Rattle.meaning.specs.Layout.{stored, decode};
 ghost use Rattle.meaning.specs.Order as meaning;
 ghost use Rattle.meaning.specs.Order.{scaled, signed};
-ghost use Rattle.comparing.specs.Told.{told, toldOf, turnedOf, sideOf, isFinite, isNan};
+ghost use Rattle.comparing.specs.Told.{told, toldOf, turnedOf, sideOf, isFinite, isNan, magnitudesOf, Sized};
 
 pub enum Relation {
     Less,
@@ -143,29 +142,26 @@ fn magnitudes(x: u32, a: [u32; 4], e: u32, c: [u32; 4]) -> Order
     raised(a, d, c)
 }
 
-// The same by the counts, of two values that are finite: where neither is zero, the first digit that stands higher decides.
+// The same of two finite values by their counts: the first digit that stands higher decides, unless it is a zero.
 fn heights(u: Unpacked, v: Unpacked) -> Order
-    requires { ⌜ (value (u .fields .coefficient) < 10 ^ 34) × (value (v .fields .coefficient) < 10 ^ 34) ⌝ }
-    requires { ⌜ Counts (value (u .fields .coefficient)) (u .digits) × Counts (value (v .fields .coefficient)) (v .digits) ⌝ }
-    ensures { λ r. ⌜ r ≡ order (scaled (value (u .fields .coefficient)) (u .fields .exponent) (v .fields .exponent)) (scaled (value (v .fields .coefficient)) (v .fields .exponent) (u .fields .exponent)) ⌝ }
+    requires { ⌜ Sized u × Sized v ⌝ }
+    ensures { λ r. ⌜ r ≡ magnitudesOf (u .fields) (v .fields) ⌝ }
 {
     let x = u.fields.exponent;
     let a = u.fields.coefficient;
     let e = v.fields.exponent;
     let c = v.fields.coefficient;
-    if is_zero(a) {
-        return magnitudes(x, a, e, c);
-    }
-    if is_zero(c) {
-        return magnitudes(x, a, e, c);
-    }
     let first = x as usize + u.digits;
     let second = e as usize + v.digits;
     if first < second {
-        return Order::Less;
+        if !is_zero(c) {
+            return Order::Less;
+        }
     }
     if second < first {
-        return Order::Greater;
+        if !is_zero(a) {
+            return Order::Greater;
+        }
     }
     magnitudes(x, a, e, c)
 }

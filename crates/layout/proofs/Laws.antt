@@ -1,7 +1,7 @@
 -- Laws of the 128 bits as four limbs and as sixteen bytes.
 use mathlib.Core.Path.{_≡_, refl, sym, ap, subst, _∙_}
-use mathlib.Core.Logic.{_⊎_, inl, inr, ⊎-elim}
-use mathlib.Core.Bool.{Bool, true, false}
+use mathlib.Core.Logic.{_⊎_, ⊎-elim}
+use mathlib.Core.Bool.{Bool}
 use mathlib.Core.List.{List, [], _∷_}
 use Prim.Native.Nat.{ℕ, zero, suc, _+_, _-_, _*_, _/_, _%_, _^_, _<_, _≤_}
 use native.Mathlib.Nat.{div-one, zero-add, div-div-eq-div-mul}
@@ -13,7 +13,7 @@ use lib.ListN.{length, getD}
 use lib.Pow.{shr-shr, mod-pow-add}
 use mir.Syntax.{w32}
 use mir.Val.{Fits}
-use Rattle.meaning.specs.Decimal.{Decimal, InRange}
+use Rattle.meaning.specs.Decimal.{InRange}
 use Rattle.meaning.specs.Decimal.Decimal.{nan, infinity, finite}
 use Rattle.meaning.specs.Layout.{bytesOf, orZero, decode, encode, bitOf}
 use Rattle.meaning.specs.Bits.{bits, bit}

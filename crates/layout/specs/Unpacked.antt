@@ -1,10 +1,10 @@
 -- What the fields of 16 bytes say, what an unpacked value means, and that its count is true.
 use mathlib.Core.Path.{_≡_}
 use mathlib.Core.Bool.{Bool}
-use Prim.Native.Nat.{ℕ}
+use Prim.Native.Nat.{ℕ, _≤_}
 use lib.ListN.{length}
 use Rattle.limbs.specs.Value.{value}
-use Rattle.meaning.specs.Decimal.{Decimal}
+use Rattle.meaning.specs.Decimal.{Decimal, InRange}
 use Rattle.meaning.specs.Decimal.Decimal.{nan, infinity, finite}
 use Rattle.meaning.specs.Writing.{decimal}
 use Rattle.layout.specs.declared.Kind.{Kind}
@@ -33,3 +33,9 @@ digitsOf (finite s e c) = length (decimal c)
 -- the count that an unpacked value carries is that of what it means
 abbrev pub TrueCount : Unpacked → Type 0
 TrueCount u = u .digits ≡ digitsOf (meant u)
+
+abbrev pub CountIsOneToThirtyFour : Type 0
+CountIsOneToThirtyFour = (u : Unpacked) → InRange (meant u) → TrueCount u → (1 ≤ u .digits) × (u .digits ≤ 34)
+
+abbrev pub ZeroHasOneDigit : Type 0
+ZeroHasOneDigit = (s : Bool) (e : ℕ) → digitsOf (finite s e 0) ≡ 1

@@ -1,6 +1,6 @@
 // The 16 stored bytes of a decimal, taken apart and put together.
 ghost use mathlib.Core.Path.{_≡_};
-ghost use Prim.Native.Nat.{_+_, _*_, _^_, _<_, _≤_};
+ghost use Prim.Native.Nat.{_+_, _*_, _^_, _<_};
 ghost use Rattle.meaning.specs.Decimal.{InRange, Decimal};
 ghost use Rattle.meaning.specs.Layout.{stored, bytesOf, orZero, decode, encode, bitOf};
 ghost use Rattle.limbs.specs.Value.{value};

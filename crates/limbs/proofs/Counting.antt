@@ -4,6 +4,7 @@ use mathlib.Core.Logic.{inl, inr, ⊎-elim}
 use Prim.Native.Nat.{ℕ, zero, suc, _+_, _-_, _*_, _/_, _^_, _≤_, _<_, max}
 use native.Mathlib.Nat.{mul-comm, pow-succ', div-lt-iff-lt-mul, le-div-iff-mul-le}
 use native.Mathlib.Omega.{arith}
+use lib.Dec.{lit<, lit≤}
 use lib.ListN.{length}
 use lib.Pow.{pow-add}
 use Rattle.meaning.specs.Writing.{decimal}
@@ -16,6 +17,9 @@ counted n zero h = record { below = h .below; above = inl refl }
 counted n (suc j) h =
     let e : suc (suc j) - 1 ≡ suc j = omega arith in
     record { below = h .below; above = inr (omega (arith, rw e at (h .above), pow-succ' 10 j, pow-pos j)) }
+
+pub zero-counts : Counts 0 1
+zero-counts = record { some = lit≤ tt; below = lit< tt; above = lit≤ tt }
 
 pub counts-between : (j k n : ℕ) → k ≡ suc j → 10 ^ j ≤ n → n < 10 ^ k → Counts n k
 counts-between j k n e l h =

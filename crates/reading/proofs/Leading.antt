@@ -1,18 +1,17 @@
 -- Runs that begin with no zero: their number has as many digits as they have bytes.
-use mathlib.Core.Path.{_≡_, refl, sym, ap, subst, _∙_}
+use mathlib.Core.Path.{_≡_, refl, sym, subst}
 use mathlib.Core.Bool.{true}
 use mathlib.Core.List.{List, [], _∷_, _++_}
-use Prim.Native.Nat.{ℕ, zero, suc, _+_, _*_, _/_, _^_, _≤_, _<_, max}
+use Prim.Native.Nat.{ℕ, zero, suc, _+_, _*_, _^_, _≤_, max}
 use native.Mathlib.Nat.{add-comm, mul-le-mul-right, one-mul, mul-div-left}
 use native.Mathlib.Omega.{arith}
-use lib.Dec.{lit<, lit≤}
 use lib.ListN.{length, take, length-take}
 use lib.Seq.{length-take-le}
 use borrow.Author.Tests.{ne-eqb, eqb-true}
 use Rattle.meaning.specs.Reading.{isDigit, allDigits, allZeros, stripZeros, number}
 use Rattle.meaning.proofs.Numbers.{both, byte-digit, pow-pos, number-lt, number-ge, Leading, strip-leading, strip-digits, strip-number}
 use Rattle.limbs.specs.Count.{Counts}
-use Rattle.limbs.proofs.Counting.{counts-between, counts-more}
+use Rattle.limbs.proofs.Counting.{zero-counts, counts-between, counts-more}
 use Rattle.reading.specs.Run.{Leads}
 
 leading-strip : (s : List ℕ) → Leading s → stripZeros s ≡ s
@@ -59,9 +58,6 @@ leads-counts (b ∷ s) n h d =
 leads-some : (s : List ℕ) (n : ℕ) → Leads s n → allDigits s ≡ true → 1 ≤ number 0 s
 leads-some [] n h d = absurd (omega (arith, h .count, h .some))
 leads-some (b ∷ s) n h d = omega (arith, first-digit b s n h d, pow-pos (length s))
-
-pub zero-counts : Counts 0 1
-zero-counts = record { some = lit≤ tt; below = lit< tt; above = lit≤ tt }
 
 -- with zeros before it
 pub strip-counts : (s : List ℕ) → allDigits s ≡ true → Counts (number 0 s) (max 1 (length (stripZeros s)))

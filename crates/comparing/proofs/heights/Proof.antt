@@ -1,4 +1,5 @@
 use borrow.Author.Needs.{needs}
+use borrow.Author.Tests.{not-true}
 use Rattle.limbs.specs.Value.{value}
 use Rattle.comparing.proofs.Orders.{is-some, height-fits, height-less, height-greater}
 use Rattle.comparing.proofs.heights.Statement.{statement}
@@ -6,39 +7,35 @@ use Rattle.comparing.proofs.heights.Tie as tie
 
 add-first : tie.Need-add-first
 add-first c =
-    let p = c .before .before .before .before .before .before .before .pre in record { fits = height-fits _ _ _ (search needs) (p .0 .0) (p .1 .0) }
+    let p = c .before .before .before .pre in record { fits = height-fits _ _ _ (search needs) (p .0 .0) (p .0 .1) }
 
 add-second : tie.Need-add-second
 add-second c =
-    let p = c .before .before .before .before .before .before .before .before .pre in record { fits = height-fits _ _ _ (search needs) (p .0 .1) (p .1 .1) }
+    let p = c .before .before .before .before .pre in record { fits = height-fits _ _ _ (search needs) (p .1 .0) (p .1 .1) }
 
-returns-3 : tie.Need-returns-3
-returns-3 c =
-    let e = c .before .before .before .before .before .before .before .before .before in
-    let n = is-some (value (e .args .v .fields .coefficient)) (c .before .before .before .before .is-zero2 .ensures) (c .before .before .before .if2 .left) in
-    height-less _ _ _ _ _ _ (e .pre .1 .0) (e .pre .1 .1) n (c .if3 .taken)
+returns : tie.Need-returns
+returns c =
+    let s = c .before .before .before .before .before .before .before in
+    let n = is-some (value (s .args .v .fields .coefficient)) (c .before .is-zero .ensures) (not-true _ (c .if2 .taken)) in
+    height-less _ _ _ _ _ _ (s .pre .0 .1) (s .pre .1 .1) n (c .before .before .if1 .taken)
 
-returns-4 : tie.Need-returns-4
-returns-4 c =
-    let e = c .before .before .before .before .before .before .before .before .before .before in
-    let n = is-some (value (e .args .u .fields .coefficient)) (c .before .before .before .before .before .before .before .is-zero .ensures) (c .before .before .before .before .before .before .if1 .left) in
-    height-greater _ _ _ _ _ _ (e .pre .1 .0) (e .pre .1 .1) n (c .if4 .taken)
+returns-2 : tie.Need-returns-2
+returns-2 c =
+    let s = c .before .before .before .before .before .before .before .before in
+    let n = is-some (value (s .args .u .fields .coefficient)) (c .before .is-zero2 .ensures) (not-true _ (c .if4 .taken)) in
+    height-greater _ _ _ _ _ _ (s .pre .0 .1) (s .pre .1 .1) n (c .before .before .if3 .taken)
 
 pub heights-spec : {M : Type 1} → statement M
 heights-spec =
     tie.close
     (tie.spec
-    (λ c κs. search needs)
-    (λ c κs. search needs)
-    (λ c. search needs)
-    (λ c κs. search needs)
-    (λ c κs. search needs)
-    (λ c. search needs)
     (λ c. search needs)
     add-first
     (λ c. search needs)
     add-second
-    returns-3
-    returns-4
+    (λ c κs. search needs)
+    returns
+    (λ c κs. search needs)
+    returns-2
     (λ c κs. search needs)
     (λ c. search needs))

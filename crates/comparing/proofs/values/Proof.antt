@@ -36,8 +36,8 @@ heights-requires c κs =
     let e = c .before .before .before .before .before .before .before .before .before in
     let f = sym (c .before .before .before .before .before .before .is-finite .ensures) ∙ not-false _ (c .before .before .before .before .before .if1 .left) in
     let g = sym (c .before .before .before .before .is-finite2 .ensures) ∙ not-false _ (c .before .before .before .if2 .left) in (
-      (finite-ranged (e .args .u .fields) (e .pre .0) f, finite-ranged (e .args .v .fields) (e .pre .1) g),
-      (finite-counts (e .args .u) (e .pre .0) (e .pre .2) f, finite-counts (e .args .v) (e .pre .1) (e .pre .3) g),
+      (finite-ranged (e .args .u .fields) (e .pre .0) f, finite-counts (e .args .u) (e .pre .0) (e .pre .2) f),
+      (finite-ranged (e .args .v .fields) (e .pre .1) g, finite-counts (e .args .v) (e .pre .1) (e .pre .3) g),
     )
 
 returns-4 : tie.Need-returns-4

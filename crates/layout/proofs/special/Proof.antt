@@ -1,6 +1,5 @@
 use mathlib.Core.Path.{refl}
 use Rattle.layout.specs.Unpacked.{said}
-use borrow.Author.Needs.{needs}
 use Rattle.layout.proofs.special.Statement.{statement}
 use Rattle.layout.proofs.special.Tie as tie
 

@@ -4,7 +4,7 @@ use Rattle.meaning.specs.Reading.{acceptedAs}
 use Rattle.meaning.specs.Stream.{recordText}
 use Rattle.writing.specs.declared.Put.the-variants.{NoRoom}
 use Rattle.writing.specs.Put.{Puts}
-use mathlib.Core.Path.{_≡_, sym, ap, subst, _∙_}
+use mathlib.Core.Path.{sym, subst}
 use native.Mathlib.Omega.{arith}
 use lib.ListN.{length, length-set}
 use Rattle.layout.specs.Unpacked.{meant}

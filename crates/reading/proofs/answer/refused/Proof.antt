@@ -1,13 +1,12 @@
-use mathlib.Core.Path.{_≡_, sym, ap, subst, _∙_}
+use mathlib.Core.Path.{sym, ap, subst, _∙_}
 use native.Mathlib.Omega.{arith}
 use lib.Dec.{lit≤, lit<}
 use borrow.Author.Needs.{needs}
 use borrow.Author.Tests.{ne-eqb}
 use Rattle.meaning.specs.Decimal.{InRange}
 use Rattle.layout.specs.Unpacked.{meant, digitsOf}
-use Rattle.limbs.proofs.Counting.{counts-decimal}
+use Rattle.layout.proofs.Digits.{zero-has-one-digit}
 use Rattle.reading.specs.Told.{told}
-use Rattle.reading.proofs.Leading.{zero-counts}
 use Rattle.reading.proofs.answer.refused.Statement.{statement}
 use Rattle.reading.proofs.answer.refused.Tie as tie
 
@@ -18,7 +17,7 @@ returns c =
     record {
       tells = rw (ne-eqb (c .before .args .number) 0 (λ e. omega arith));
       ranged = subst InRange (sym e) (lit≤ tt, lit< tt);
-      counted = (unfold digitsOf in counts-decimal 0 1 (lit< tt) zero-counts ∙ sym (ap digitsOf e));
+      counted = sym (ap digitsOf e ∙ zero-has-one-digit _ _);
     }
 
 pub refused-spec : {M : Type 1} → statement M

@@ -9,11 +9,11 @@ use borrow.Author.Needs.{needs}
 use Rattle.meaning.specs.Reading.{refusedAt, allZeros, stripZeros, firstCut, step7, step9}
 use Rattle.meaning.specs.Refusals.Refusal.{inexactRounding}
 use Rattle.meaning.proofs.Numbers.{Leading, strip-leading}
+use Rattle.limbs.proofs.Counting.{zero-counts}
 use Rattle.limbs.proofs.Shifts.{stands-raised}
 use Rattle.reading.specs.Run.{run, ZerosTo, Leads}
 use Rattle.reading.specs.Told.{named}
 use Rattle.reading.specs.Parted.{Placed}
-use Rattle.reading.proofs.Leading.{zero-counts}
 use Rattle.reading.proofs.Walk.{length-run, zeros-not, zeros-only}
 use Rattle.reading.proofs.Points.{stop-low, stop-within, walked, walked-from}
 use Rattle.reading.proofs.Where.{placed}
