@@ -32,7 +32,7 @@ pub counts-decimal : (n k : ℕ) → n < 10 ^ 34 → Counts n k → k ≡ length
 counts-decimal n zero l h = absurd (omega (arith, h .some))
 counts-decimal n (suc j) l h = sym (count-is n j (counts-few n (suc j) l h) (counted n j h))
 
--- what has more than j + 1 digits is not below 10^(j+1)
+-- what has more than j digits is not below 10^j, where zero, which has one, goes for one
 not-few : (n j k : ℕ) → length (decimal n) ≡ k → j < k → 10 ^ j ≤ max n 1
 not-few n zero k e l = omega arith
 not-few n (suc j) k e l = ⊎-elim (λ h. omega arith) (λ h. absurd (omega (arith, few n j h))) (le-or (10 ^ suc j) n)
