@@ -104,6 +104,7 @@ fn fields_of_words(w: [u32; 4]) -> Fields
     finite(negative, rest / 0x2_0000, or_zero(c))
 }
 
+// What 16 bytes say, with nothing counted.
 pub fn fields_of(b: [u8; 16]) -> Fields
     ensures { λ r. ⌜ said r ≡ decode (stored b) ⌝ }
 {
@@ -126,6 +127,7 @@ fn digits_of(f: Fields) -> usize
     }
 }
 
+// The value of 16 bytes.
 pub fn unpack(b: [u8; 16]) -> Unpacked
     ensures { λ r. ⌜ (meant r ≡ decode (stored b)) × TrueCount r ⌝ }
 {

@@ -86,7 +86,7 @@ module _ (p i t : ℕ) (s : List ℕ) (h : i ≤ t) (l : t ≤ length s) (count 
     lost-run : lost b (run p i end s) ≡ run p cut end s
     lost-run = rw end-length (run-rest p i (count - b) cut end s oc (oe .after) end-text inside)
 
-    pub kept-length : length (run p i cut s) ≡ count - b
+    kept-length : length (run p i cut s) ≡ count - b
     kept-length = length-run p i cut s (oc .after) (omega (arith, cut-within, end-text)) ∙ oc .count
 
     -- what is kept begins as the run does, where zeros are cut
@@ -132,7 +132,7 @@ module _ (p i t : ℕ) (s : List ℕ) (h : i ≤ t) (l : t ≤ length s) (count 
   all : count ≡ length (run p i t s)
   all = ec ∙ sym (length-run p i t s h l)
 
-  pub keep-most : keep ≤ length (run p i t s)
+  keep-most : keep ≤ length (run p i t s)
   keep-most = rw (← all) (min-most count 34 keep ek)
 
   -- a run that begins with no zero
