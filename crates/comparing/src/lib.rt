@@ -283,8 +283,8 @@ fn beside(v: Fields) -> Relation
     side(!v.negative)
 }
 
-// The relation of two stored values: IEEE 754-2008, 5.11. The second is unpacked where the first is known to be finite or
-// not, so that no kind is kept for later.
+// The relation of two stored values: IEEE 754-2008, 5.11. The second's fields are taken where the first is known to be finite
+// or not, so that no kind is kept for later. Counting digits would cost more than the raising that it spares.
 pub fn compare(a: &[u8; 16], b: &[u8; 16]) -> Relation
     ensures { λ r. ⌜ told r ≡ meaning.relation (decode (stored (now (a .entry)))) (decode (stored (now (b .entry)))) ⌝ }
 {

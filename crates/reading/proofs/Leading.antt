@@ -50,7 +50,7 @@ first-digit b s n h d =
     let f = leading-of (b ∷ s) n h in
     number-ge b s (omega arith)
 
-pub leads-counts : (s : List ℕ) (n : ℕ) → Leads s n → allDigits s ≡ true → Counts (number 0 s) n
+leads-counts : (s : List ℕ) (n : ℕ) → Leads s n → allDigits s ≡ true → Counts (number 0 s) n
 leads-counts [] n h d = absurd (omega (arith, h .count, h .some))
 leads-counts (b ∷ s) n h d =
     counts-between (length s) n (number 0 (b ∷ s)) (sym (h .count)) (first-digit b s n h d) (rw (h .count) at (number-lt (b ∷ s) d))
