@@ -2,7 +2,7 @@
 use mathlib.Core.Path.{_≡_, sym, ap, _∙_}
 use mathlib.Core.Bool.{Bool, true, false}
 use mathlib.Core.List.{List}
-use Prim.Native.Nat.{ℕ, _+_, _-_, _*_, _%_, _^_, _≤_, _<_, min}
+use Prim.Native.Nat.{ℕ, _+_, _-_, _*_, _/_, _%_, _^_, _≤_, _<_, min}
 use native.Mathlib.Nat.{add-zero, mul-zero, zero-mul, mul-one, one-mul, mul-assoc, mul-le-mul-right, mul-lt-mul-of-pos-right, le-mul-of-pos-right, lt-of-lt-of-le, le-trans}
 use native.Mathlib.Omega.{arith}
 use lib.Dec.{eqb, ltb, lit≤}
@@ -20,10 +20,14 @@ use Rattle.limbs.specs.declared.Order.{Order}
 use Rattle.limbs.specs.declared.Carried.{Carried}
 use Rattle.limbs.specs.declared.Order.the-variants.{Less, Greater}
 use Rattle.limbs.proofs.Counting.{counts-few}
-use Rattle.limbs.proofs.Laws.{value-four}
+use Rattle.limbs.proofs.Laws.{value-four, of-halves}
 use Rattle.comparing.specs.Told.{toldOf, turnedOf}
 
 -- ---- a number of four limbs, by its lower two
+
+-- the whole of two halves
+pub whole : (n : ℕ) {l h : ℕ} → l ≡ n % 2 ^ 64 → h ≡ n / 2 ^ 64 → l + 2 ^ 64 * h ≡ n
+whole n e f = rw (e, f) (of-halves n)
 
 -- a test that was made, and the lower two limbs
 pub low-zero : {t : Bool} (n l : ℕ) → t ≡ ltb n (2 ^ 64) → t ≡ true → l ≡ n % 2 ^ 64 → eqb l 0 ≡ eqb n 0
@@ -94,6 +98,12 @@ module _ (a d c n k : ℕ) (i : n * 10 ^ k ≡ a * 10 ^ d) where
 
   pub last-raised : {l : ℕ} → l ≡ n * 10 ^ k → order l c ≡ order (a * 10 ^ d) c
   last-raised e = rw (e, i)
+
+-- a and c by their halves
+pub raised-whole : {o : Order} (a d c : ℕ) {l h k j : ℕ} →
+    l ≡ a % 2 ^ 64 → h ≡ a / 2 ^ 64 → k ≡ c % 2 ^ 64 → j ≡ c / 2 ^ 64 →
+    o ≡ order ((l + 2 ^ 64 * h) * 10 ^ d) (k + 2 ^ 64 * j) → o ≡ order (a * 10 ^ d) c
+raised-whole a d c p q r s e = e ∙ rw (whole a p q, whole c r s)
 
 -- what four limbs hold of a product p, and what they carry, B being 2^128
 beyond : (B c l k p : ℕ) → l + B * k ≡ p + 0 → 1 ≤ k → c < B → c < p

@@ -5,7 +5,9 @@ use mathlib.Core.Bool.{Bool, true, false, not, cond, Bool·beq, true≢false}
 use Prim.Native.Nat.{ℕ, _+_, _-_, _*_, _^_, _≤_, _<_, min}
 use native.Mathlib.Nat.{add-zero, zero-add, zero-mul, le-mul-of-pos-right}
 use native.Mathlib.Omega.{arith}
+use lib.Dec.{eqb}
 use lib.ListN.{length}
+use borrow.Author.Tests.{eqb-true}
 use Rattle.meaning.specs.Decimal.{InRange}
 use Rattle.meaning.specs.Decimal.Decimal.{finite}
 use Rattle.meaning.specs.Layout.{decode}
@@ -135,12 +137,12 @@ infinities : (u v : Fields) → u .kind ≡ Infinity → v .kind ≡ Infinity �
 unfolding said relation
 infinities u v p q = rw (p, q)
 
+alike : (s : Bool) (n : ℕ) → signed s n s n ≡ equal
+alike true n = negatives n n ∙ shown n n equal refl
+alike false n = plain n n ∙ shown n n equal refl
+
 pub one-infinity : (u v : Fields) → u .kind ≡ Infinity → v .kind ≡ Infinity → v .negative ≡ u .negative → relation (said u) (said v) ≡ equal
-one-infinity u v p q d = infinities u v p q ∙ rw d (alike (u .negative))
-  where
-    alike : (s : Bool) → signed s 1 s 1 ≡ equal
-    alike true = negatives 1 1 ∙ shown 1 1 equal refl
-    alike false = plain 1 1 ∙ shown 1 1 equal refl
+one-infinity u v p q d = infinities u v p q ∙ rw d (alike (u .negative) 1)
 
 pub two-infinities : (u v : Fields) → u .kind ≡ Infinity → v .kind ≡ Infinity → v .negative ≡ not (u .negative) → relation (said u) (said v) ≡ sideOf (u .negative)
 two-infinities u v p q d = infinities u v p q ∙ rw d (apart (u .negative) 1 1 (omega arith))
@@ -149,10 +151,24 @@ pub of-finite : (u v : Fields) → isFinite (u .kind) ≡ true → isFinite (v .
 unfolding said
 of-finite u v p q = rw (finite-kind (u .kind) p, finite-kind (v .kind) q)
 
+-- a value that is no NaN equals itself
+pub equals-itself : (u : Fields) → isNan (u .kind) ≡ false → relation (said u) (said u) ≡ equal
+unfolding said relation
+equals-itself u d = itself (u .kind) d
+  where
+    itself : (k : Kind) → isNan k ≡ false → relation (saidBy k (u .negative) (u .exponent) (value (u .coefficient))) (saidBy k (u .negative) (u .exponent) (value (u .coefficient))) ≡ equal
+    itself (Nan q) d = absurd (true≢false d)
+    itself Infinity d = alike (u .negative) 1
+    itself Finite d = alike (u .negative) (scaled (value (u .coefficient)) (u .exponent) (u .exponent))
+
 -- ---- fields of stored bytes, and unpacked values
 
 pub stored-fields : (u v : Fields) (m n : ℕ) → said u ≡ decode m → said v ≡ decode n → relation (said u) (said v) ≡ relation (decode m) (decode n)
 stored-fields u v m n p q = rw (p, q)
+
+-- the same bytes, where t is the test that was made
+pub stored-same : {t : Bool} (u : Fields) (m n : ℕ) → said u ≡ decode m → t ≡ eqb m n → t ≡ true → relation (said u) (said u) ≡ relation (decode m) (decode n)
+stored-same u m n p e q = stored-fields u u m n p (p ∙ ap decode (eqb-true m n (sym e ∙ q)))
 
 pub stored-ranged : (u : Fields) (n : ℕ) → said u ≡ decode n → InRange (said u)
 stored-ranged u n e = rw e (decodes-in-range n)

@@ -1,35 +1,24 @@
--- The table of the powers of ten of one limb: one test that antt computes, carried to each entry.
-use mathlib.Core.Path.{_≡_, refl}
-use mathlib.Core.Bool.{Bool, true, _&&_}
-use mathlib.Core.List.{List, [], _∷_}
-use Prim.Native.Nat.{ℕ, zero, suc, _+_, _*_, _%_, _^_, _≤_, _<_}
-use native.Mathlib.Nat.{add-zero, zero-add, mul-le-mul-left}
+-- The powers of ten of one limb: each row of the match is the number that it should be, which antt computes.
+use mathlib.Core.Path.{_≡_, sym}
+use Prim.Native.Nat.{ℕ, zero, suc, _*_, _%_, _^_, _≤_, _<_, zero-le}
+use native.Mathlib.Nat.{mul-le-mul-left}
 use native.Mathlib.Omega.{arith}
-use lib.Dec.{eqb}
-use lib.ListN.{length, getD}
-use borrow.Author.Tests.{eqb-true}
-use Rattle.meaning.proofs.Numbers.{both, pow-le}
+use lib.Arith.{lt-of-le-ne}
+use Rattle.meaning.proofs.Numbers.{pow-le}
 
--- the first entry is 10^k
-unfoldable tensFrom : ℕ → List ℕ → Bool
-tensFrom k [] = true
-tensFrom k (x ∷ s) = eqb x (10 ^ k) && tensFrom (suc k) s
+-- ---- a match on k with a row for each number below i: nothing is left for `_` where k is below i
 
-entry : (k : ℕ) (s : List ℕ) (i : ℕ) → tensFrom k s ≡ true → i < length s → getD s i 0 ≡ 10 ^ (i + k)
-unfolding tensFrom
-entry k [] i t h = absurd (omega arith)
-entry k (x ∷ s) zero t h = rw zero-add (eqb-true x (10 ^ k) (both (eqb x (10 ^ k)) (tensFrom (suc k) s) t .0))
-entry k (x ∷ s) (suc i) t h =
-    let e : i + suc k ≡ suc i + k = omega arith in
-    rw e at (entry (suc k) s i (both (eqb x (10 ^ k)) (tensFrom (suc k) s) t .1) (omega arith))
+-- k is none of the numbers below i
+abbrev Rest : ℕ → ℕ → Type 0
+Rest zero k = Unit
+Rest (suc i) k = Rest i k × (k ≡ i → ⊥)
 
--- as the program has it
-unfoldable pub tens : List ℕ
-tens = 1 ∷ 10 ∷ 100 ∷ 1000 ∷ 10000 ∷ 100000 ∷ 1000000 ∷ 10000000 ∷ 100000000 ∷ 1000000000 ∷ []
+beyond : (i k : ℕ) → Rest i k → i ≤ k
+beyond zero k h = zero-le
+beyond (suc i) k h = lt-of-le-ne (beyond i k (h .0)) (λ (e : i ≡ k). h .1 (sym e))
 
-pub ten-of : (k : ℕ) → k ≤ 9 → getD tens k 0 ≡ 10 ^ k
-unfolding tens tensFrom
-ten-of k h = rw add-zero at (entry 0 tens k refl (omega arith))
+pub none-left : (i k : ℕ) → Rest i k → k < i → ⊥
+none-left i k h l = let g = beyond i k h in omega arith
 
 -- ---- products of one limb by one
 

@@ -5,7 +5,7 @@ use layout::Unpacked;
 use limbs::Order;
 ghost use mathlib.Core.Path.{_≡_};
 ghost use mathlib.Core.Bool.{true, false, not, cond};
-ghost use Prim.Native.Nat.{_*_, _^_, _≤_, _<_};
+ghost use Prim.Native.Nat.{_+_, _*_, _^_, _≤_, _<_};
 ghost use lib.Dec.{eqb};
 ghost use Rattle.limbs.specs.Value.{value};
 ghost use Rattle.limbs.specs.Order.{order};
@@ -36,26 +36,24 @@ fn is_zero(c: [u32; 4]) -> bool
     false
 }
 
-// The powers of ten of one limb.
-const TENS: [u32; 10] = [
-    1,
-    10,
-    100,
-    1000,
-    10000,
-    100000,
-    1000000,
-    10000000,
-    100000000,
-    1000000000,
-];
-
-// 10^d.
+// 10^d. A match and no array: an array that is indexed by a variable is built anew at each use.
 fn ten(d: usize) -> u32
     requires { ⌜ d ≤ 9 ⌝ }
     ensures { λ r. ⌜ r ≡ 10 ^ d ⌝ }
 {
-    TENS[d]
+    match d {
+        0 => 1,
+        1 => 10,
+        2 => 100,
+        3 => 1000,
+        4 => 10000,
+        5 => 100000,
+        6 => 1000000,
+        7 => 10000000,
+        8 => 100000000,
+        9 => 1000000000,
+        _ => 1,
+    }
 }
 
 // a·10^d against c, nine digits at a time. What four limbs do not hold is above c, and so is any a·10^34 but zero.
@@ -86,6 +84,18 @@ fn raised(a: [u32; 4], d: u32, c: [u32; 4]) -> Order
     }
     let low = m.low;
     limbs::compare(low, c)
+}
+
+// The same of the halves low and high of a, and lower and upper of c: these come in registers, four limbs through memory.
+fn raised_halves(low: u64, high: u64, d: u32, lower: u64, upper: u64) -> Order
+    requires { ⌜ lower + 2 ^ 64 * upper < 10 ^ 34 ⌝ }
+    ensures { λ r. ⌜ r ≡ order ((low + 2 ^ 64 * high) * 10 ^ d) (lower + 2 ^ 64 * upper) ⌝ }
+{
+    raised(
+        limbs::of_halves(low, high),
+        d,
+        limbs::of_halves(lower, upper),
+    )
 }
 
 // a and 10^d are of one limb each.
@@ -133,13 +143,25 @@ fn magnitudes(x: u32, a: [u32; 4], e: u32, c: [u32; 4]) -> Order
         if is_short(c, d) {
             return limbs::compare(a, short(c, d));
         }
-        return turned(raised(c, d, a));
+        return turned(raised_halves(
+            limbs::low(c),
+            limbs::high(c),
+            d,
+            limbs::low(a),
+            limbs::high(a),
+        ));
     }
     let d = x - e;
     if is_short(a, d) {
         return limbs::compare(short(a, d), c);
     }
-    raised(a, d, c)
+    raised_halves(
+        limbs::low(a),
+        limbs::high(a),
+        d,
+        limbs::low(c),
+        limbs::high(c),
+    )
 }
 
 // The same of two finite values by their counts: the first digit that stands higher decides, unless it is a zero.
@@ -283,11 +305,26 @@ fn beside(v: Fields) -> Relation
     side(!v.negative)
 }
 
-// The relation of two stored values: IEEE 754-2008, 5.11. The second's fields are taken where the first is known to be finite
-// or not, so that no kind is kept for later. Counting digits would cost more than the raising that it spares.
+// A value against itself.
+fn itself(u: Fields) -> Relation
+    ensures { λ r. ⌜ told r ≡ meaning.relation (said u) (said u) ⌝ }
+{
+    let kind = u.kind;
+    if is_nan(kind) {
+        return Relation::Unordered;
+    }
+    Relation::Equal
+}
+
+// The relation of two stored values: IEEE 754-2008, 5.11. The same bytes are known first, which costs other finite pairs nothing.
+// The second's fields are taken where the first is known to be finite or not, so that no kind is kept for later. Counting digits
+// would cost more than the raising that it spares.
 pub fn compare(a: &[u8; 16], b: &[u8; 16]) -> Relation
     ensures { λ r. ⌜ told r ≡ meaning.relation (decode (stored (now (a .entry)))) (decode (stored (now (b .entry)))) ⌝ }
 {
+    if layout::same(a, b) {
+        return itself(layout::fields_of(*a));
+    }
     let u = layout::fields_of(*a);
     let first = u.kind;
     if !is_finite(first) {

@@ -1,23 +1,23 @@
 -- Laws of the 128 bits as four limbs and as sixteen bytes.
 use mathlib.Core.Path.{_≡_, refl, sym, ap, subst, _∙_}
 use mathlib.Core.Logic.{_⊎_, ⊎-elim}
-use mathlib.Core.Bool.{Bool}
+use mathlib.Core.Bool.{Bool, false}
 use mathlib.Core.List.{List, [], _∷_}
 use Prim.Native.Nat.{ℕ, zero, suc, _+_, _-_, _*_, _/_, _%_, _^_, _<_, _≤_}
 use native.Mathlib.Nat.{div-one, zero-add, div-div-eq-div-mul}
 use native.Mathlib.Omega.{arith}
-use borrow.Author.Tests.{eq-eqb, ne-eqb, le-leb, lt-leb}
+use borrow.Author.Tests.{eq-eqb, ne-eqb, eqb-true, eqb-false, le-leb, lt-leb}
 use lib.Arith.{digits-div, digits-mod}
 use lib.Dec.{eqb, leb}
 use lib.ListN.{length, getD}
 use lib.Pow.{shr-shr, mod-pow-add}
-use mir.Syntax.{w32}
+use mir.Syntax.{w8, w32}
 use mir.Val.{Fits}
 use Rattle.meaning.specs.Decimal.{InRange}
 use Rattle.meaning.specs.Decimal.Decimal.{nan, infinity, finite}
-use Rattle.meaning.specs.Layout.{bytesOf, orZero, decode, encode, bitOf}
+use Rattle.meaning.specs.Layout.{stored, bytesOf, orZero, decode, encode, bitOf}
 use Rattle.meaning.specs.Bits.{bits, bit}
-use Rattle.meaning.proofs.Numbers.{le-or}
+use Rattle.meaning.proofs.Numbers.{le-or, by-test}
 use Rattle.meaning.proofs.Fields.{encodes-finite, decodes-nan, decodes-infinity, decodes-second, decodes-first}
 use Rattle.limbs.specs.Value.{value}
 use Rattle.limbs.proofs.Laws.{value-four}
@@ -42,6 +42,51 @@ listed n b l = tab-all b ∙ ap (λ (m : ℕ). tab m (λ (k : ℕ). getD b k 0))
 -- one limb is four bytes
 pub word-step : (r m n a b c d : ℕ) → r ≡ a + 256 * (b + 256 * (c + 256 * d)) → m ≡ n → r + 2 ^ 32 * m ≡ a + 256 * (b + 256 * (c + 256 * (d + 256 * n)))
 word-step r m n a b c d e f = omega arith
+
+-- and one half is eight
+abbrev eight : ℕ → ℕ → ℕ → ℕ → ℕ → ℕ → ℕ → ℕ → ℕ
+eight a b c d e f g h = a + 256 * (b + 256 * (c + 256 * (d + 256 * (e + 256 * (f + 256 * (g + 256 * h))))))
+
+pub half-step : (r m n a b c d e f g h : ℕ) → r ≡ eight a b c d e f g h → m ≡ n → r + 2 ^ 64 * m ≡ eight a b c d e f g (h + 256 * n)
+half-step r m n a b c d e f g h p q = omega arith
+
+-- two limbs of a half, and what stands above them
+pub two-limbs : (r m : ℕ) → r % 2 ^ 32 + 2 ^ 32 * (r / 2 ^ 32 + 2 ^ 32 * m) ≡ r + 2 ^ 64 * m
+two-limbs r m = omega arith
+
+half-fits : {a b c d e f g h : ℕ} → Fits w8 a → Fits w8 b → Fits w8 c → Fits w8 d → Fits w8 e → Fits w8 f → Fits w8 g → Fits w8 h → eight a b c d e f g h < 2 ^ 64
+half-fits p q r s t u v w = omega arith
+
+lower-of : (n r m : ℕ) → r < 2 ^ 64 → r + 2 ^ 64 * m ≡ n → r ≡ n % 2 ^ 64
+lower-of n r m f e = omega arith
+
+upper-of : (n l r m : ℕ) → l < 2 ^ 64 → l + 2 ^ 64 * m ≡ n → r + 2 ^ 64 * 0 ≡ m → r ≡ n / 2 ^ 64
+upper-of n l r m f e g = omega arith
+
+-- the halves of sixteen bytes
+module _ (b : List ℕ) (l : length b ≡ 16) (f : (i : ℕ) → Fits w8 (getD b i 0)) (r : ℕ) where
+  pub lower-half : r ≡ eight (getD b 0 0) (getD b 1 0) (getD b 2 0) (getD b 3 0) (getD b 4 0) (getD b 5 0) (getD b 6 0) (getD b 7 0) → r ≡ stored b % 2 ^ 64
+  unfolding stored
+  lower-half e =
+      lower-of (stored b) r _ (rw e (half-fits (f 0) (f 1) (f 2) (f 3) (f 4) (f 5) (f 6) (f 7)))
+      (half-step r _ _ _ _ _ _ _ _ _ _ e refl ∙ sym (ap stored (listed 16 b l)))
+
+  pub upper-half : r ≡ eight (getD b 8 0) (getD b 9 0) (getD b 10 0) (getD b 11 0) (getD b 12 0) (getD b 13 0) (getD b 14 0) (getD b 15 0) → r ≡ stored b / 2 ^ 64
+  unfolding stored
+  upper-half e =
+      upper-of (stored b) _ r _ (half-fits (f 0) (f 1) (f 2) (f 3) (f 4) (f 5) (f 6) (f 7))
+      (half-step _ _ _ _ _ _ _ _ _ _ _ refl refl ∙ sym (ap stored (listed 16 b l)))
+      (half-step r 0 0 _ _ _ _ _ _ _ _ e refl)
+
+-- two numbers are one where both halves are
+pub halves-differ : {x y : ℕ} (m n : ℕ) → x ≡ m % 2 ^ 64 → y ≡ n % 2 ^ 64 → (x ≡ y → ⊥) → false ≡ eqb m n
+halves-differ m n e f d = sym (ne-eqb m n (λ p. d (e ∙ ap (λ (k : ℕ). k % 2 ^ 64) p ∙ sym f)))
+
+pub halves-agree : {x y z w : ℕ} (m n : ℕ) → x ≡ m % 2 ^ 64 → y ≡ n % 2 ^ 64 → x ≡ y → z ≡ m / 2 ^ 64 → w ≡ n / 2 ^ 64 → eqb z w ≡ eqb m n
+halves-agree {x} {y} {z} {w} m n e f d g h =
+    by-test (eqb z w)
+    (λ p. let q = eqb-true z w p in p ∙ sym (eq-eqb m n (omega arith)))
+    (λ p. p ∙ sym (ne-eqb m n (λ q. eqb-false z w p (g ∙ ap (λ (k : ℕ). k / 2 ^ 64) q ∙ sym h))))
 
 -- the four bytes of a limb, and those of what stands above it
 pub four-bytes : (x n k : ℕ) (r : List ℕ) → Fits w32 x → r ≡ bytesOf k n → x % 256 ∷ x / 256 % 256 ∷ x / 65536 % 256 ∷ x / 16777216 % 256 ∷ r ≡ bytesOf (suc (suc (suc (suc k)))) (x + 2 ^ 32 * n)

@@ -1,6 +1,7 @@
 // The 16 stored bytes of a decimal, taken apart and put together.
 ghost use mathlib.Core.Path.{_≡_};
-ghost use Prim.Native.Nat.{_+_, _*_, _^_, _<_};
+ghost use Prim.Native.Nat.{_+_, _*_, _/_, _%_, _^_, _<_};
+ghost use lib.Dec.{eqb};
 ghost use Rattle.meaning.specs.Decimal.{InRange, Decimal};
 ghost use Rattle.meaning.specs.Layout.{stored, bytesOf, orZero, decode, encode, bitOf};
 ghost use Rattle.limbs.specs.Value.{value};
@@ -50,22 +51,60 @@ pub fn finite(negative: bool, exponent: u32, coefficient: [u32; 4]) -> Fields
     }
 }
 
-// A limb of four bytes, lowest first.
+// Four and eight bytes as one number, lowest first. A flat sum is loaded at once, one in Horner's form is not.
 fn word(b0: u8, b1: u8, b2: u8, b3: u8) -> u32
     ensures { λ r. ⌜ r ≡ b0 + 256 * (b1 + 256 * (b2 + 256 * b3)) ⌝ }
 {
-    b0 as u32 + 256 * (b1 as u32 + 256 * (b2 as u32 + 256 * b3 as u32))
+    b0 as u32 + b1 as u32 * 0x100 + b2 as u32 * 0x1_0000 + b3 as u32 * 0x100_0000
 }
 
+fn half(b0: u8, b1: u8, b2: u8, b3: u8, b4: u8, b5: u8, b6: u8, b7: u8) -> u64
+    ensures { λ r. ⌜ r ≡ b0 + 256 * (b1 + 256 * (b2 + 256 * (b3 + 256 * (b4 + 256 * (b5 + 256 * (b6 + 256 * b7)))))) ⌝ }
+{
+    b0 as u64
+        + b1 as u64 * 0x100
+        + b2 as u64 * 0x1_0000
+        + b3 as u64 * 0x100_0000
+        + b4 as u64 * 0x1_0000_0000
+        + b5 as u64 * 0x100_0000_0000
+        + b6 as u64 * 0x1_0000_0000_0000
+        + b7 as u64 * 0x100_0000_0000_0000
+}
+
+// The lower half is loaded as one word; of the upper one the highest limb is needed by itself.
 fn words(b: [u8; 16]) -> [u32; 4]
     ensures { λ r. ⌜ value r ≡ stored b ⌝ }
 {
+    let low = half(b[0], b[1], b[2], b[3], b[4], b[5], b[6], b[7]);
     [
-        word(b[0], b[1], b[2], b[3]),
-        word(b[4], b[5], b[6], b[7]),
+        (low % 0x1_0000_0000) as u32,
+        (low / 0x1_0000_0000) as u32,
         word(b[8], b[9], b[10], b[11]),
         word(b[12], b[13], b[14], b[15]),
     ]
+}
+
+// The lower and the upper eight bytes.
+fn lower(b: [u8; 16]) -> u64
+    ensures { λ r. ⌜ r ≡ stored b % 2 ^ 64 ⌝ }
+{
+    half(b[0], b[1], b[2], b[3], b[4], b[5], b[6], b[7])
+}
+
+fn upper(b: [u8; 16]) -> u64
+    ensures { λ r. ⌜ r ≡ stored b / 2 ^ 64 ⌝ }
+{
+    half(b[8], b[9], b[10], b[11], b[12], b[13], b[14], b[15])
+}
+
+// The same 16 bytes. They are lent, so that each half is loaded where it is compared: by value every pair pays five instructions.
+pub fn same(a: &[u8; 16], b: &[u8; 16]) -> bool
+    ensures { λ r. ⌜ r ≡ eqb (stored (now (a .entry))) (stored (now (b .entry))) ⌝ }
+{
+    if lower(*a) != lower(*b) {
+        return false;
+    }
+    upper(*a) == upper(*b)
 }
 
 // A coefficient above 10^34 - 1 reads as zero.
@@ -79,29 +118,30 @@ fn or_zero(c: [u32; 4]) -> [u32; 4]
     }
 }
 
-// rest is the highest limb without its sign bit; NaN, infinity and the second finite form begin at these numbers.
+// rest is the highest limb without its sign bit; the second finite form, infinity and NaN begin at these numbers. The first
+// finite form is by far the commonest.
 fn fields_of_words(w: [u32; 4]) -> Fields
     ensures { λ r. ⌜ said r ≡ decode (value w) ⌝ }
 {
     let top = w[3];
     let negative = 0x8000_0000 <= top;
     let rest = top % 0x8000_0000;
-    if 0x7c00_0000 <= rest {
-        return special(
-            negative,
-            Kind::Nan {
-                signalling: 0x7e00_0000 <= rest,
-            },
-        );
+    if rest < 0x6000_0000 {
+        let c = [w[0], w[1], w[2], rest % 0x2_0000];
+        return finite(negative, rest / 0x2_0000, or_zero(c));
     }
-    if 0x7800_0000 <= rest {
-        return special(negative, Kind::Infinity);
-    }
-    if 0x6000_0000 <= rest {
+    if rest < 0x7800_0000 {
         return finite(negative, rest / 0x8000 % 0x4000, [0, 0, 0, 0]);
     }
-    let c = [w[0], w[1], w[2], rest % 0x2_0000];
-    finite(negative, rest / 0x2_0000, or_zero(c))
+    if rest < 0x7c00_0000 {
+        return special(negative, Kind::Infinity);
+    }
+    special(
+        negative,
+        Kind::Nan {
+            signalling: 0x7e00_0000 <= rest,
+        },
+    )
 }
 
 // What 16 bytes say, with nothing counted.

@@ -43,6 +43,13 @@ two-low n f g = omega arith
 two-long : (x y n : ℕ) → (n ≡ 0 → ⊥) → 2 ^ 64 ≤ x + 2 ^ 32 * (y + 2 ^ 32 * n)
 two-long x y n h = omega arith
 
+two-high : {x y : ℕ} (n : ℕ) → Fits w32 x → Fits w32 y → n ≡ (x + 2 ^ 32 * (y + 2 ^ 32 * n)) / 2 ^ 64
+two-high n f g = omega arith
+
+-- the upper two as they stand in the value of four
+upper : (x y : ℕ) → y * 2 ^ 32 + x ≡ value (x ∷ y ∷ [])
+upper x y = omega arith
+
 module _ (a : List ℕ) (l : length a ≡ 4) where
   pub long : (getD a 2 0 + getD a 3 0 ≡ 0 → ⊥) → false ≡ ltb (value a) (2 ^ 64)
   long h = sym (le-ltb (value a) (2 ^ 64) (rw (value-four a l) (two-long _ _ _ (λ e. h (omega arith)))))
@@ -52,6 +59,13 @@ module _ (a : List ℕ) (l : length a ≡ 4) where
 
   pub low-two : Fits w32 (getD a 0 0) → Fits w32 (getD a 1 0) → getD a 1 0 * 2 ^ 32 + getD a 0 0 ≡ value a % 2 ^ 64
   low-two f g = rw (value-four a l) (two-low _ f g)
+
+  pub high-two : Fits w32 (getD a 0 0) → Fits w32 (getD a 1 0) → getD a 3 0 * 2 ^ 32 + getD a 2 0 ≡ value a / 2 ^ 64
+  high-two f g = rw (value-four a l) (upper (getD a 2 0) (getD a 3 0) ∙ two-high _ f g)
+
+-- a number and its halves
+pub of-halves : (n : ℕ) → n % 2 ^ 64 + 2 ^ 64 * (n / 2 ^ 64) ≡ n
+of-halves n = omega arith
 
 -- ---- order
 
@@ -88,6 +102,14 @@ below {t} {x} {y} {m} {n} f g d =
       test = d .test ∙ same-test m n (x + 2 ^ 32 * m) (y + 2 ^ 32 * n) (λ h. omega arith) (λ h. omega (arith, d .differ));
       differ = λ h. d .differ (omega arith);
     }
+
+-- by halves: the upper decide where they differ, and the lower where they do not
+module _ (m n : ℕ) {x y : ℕ} (e : x ≡ m / 2 ^ 64) (f : y ≡ n / 2 ^ 64) where
+  pub upper-decide : (x ≡ y → ⊥) → ltb x y ≡ ltb m n
+  upper-decide d = same-test x y m n (λ h. omega arith) (λ h. omega (arith, d))
+
+  pub lower-decide : {l k : ℕ} → x ≡ y → l ≡ m % 2 ^ 64 → k ≡ n % 2 ^ 64 → ltb l k ≡ ltb m n
+  lower-decide {l} {k} d g h = same-test l k m n (λ p. omega arith) (λ p. omega arith)
 
 -- ---- carries
 

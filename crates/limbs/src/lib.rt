@@ -23,6 +23,25 @@ pub fn low(a: [u32; 4]) -> u64
     a[1] as u64 * 0x1_0000_0000 + a[0] as u64
 }
 
+// The upper two limbs.
+pub fn high(a: [u32; 4]) -> u64
+    ensures { λ r. ⌜ r ≡ value a / 2 ^ 64 ⌝ }
+{
+    a[3] as u64 * 0x1_0000_0000 + a[2] as u64
+}
+
+// Four limbs of two halves.
+pub fn of_halves(low: u64, high: u64) -> [u32; 4]
+    ensures { λ r. ⌜ value r ≡ low + 2 ^ 64 * high ⌝ }
+{
+    [
+        (low % 0x1_0000_0000) as u32,
+        (low / 0x1_0000_0000) as u32,
+        (high % 0x1_0000_0000) as u32,
+        (high / 0x1_0000_0000) as u32,
+    ]
+}
+
 // The lower two limbs are all there is.
 pub fn fits_u64(a: [u32; 4]) -> bool
     ensures { λ r. ⌜ r ≡ ltb (value a) (2 ^ 64) ⌝ }
@@ -54,6 +73,18 @@ pub fn less(a: [u32; 4], b: [u32; 4]) -> bool
     a[0] < b[0]
 }
 
+// The same by halves: shorter in `compare`, whose limbs stand in registers, and longer in the reader, which has them in memory.
+fn below(a: [u32; 4], b: [u32; 4]) -> bool
+    ensures { λ r. ⌜ r ≡ ltb (value a) (value b) ⌝ }
+{
+    let x = high(a);
+    let y = high(b);
+    if x != y {
+        return x < y;
+    }
+    low(a) < low(b)
+}
+
 pub enum Order {
     Less,
     Equal,
@@ -64,10 +95,10 @@ pub enum Order {
 pub fn compare(a: [u32; 4], b: [u32; 4]) -> Order
     ensures { λ r. ⌜ r ≡ order (value a) (value b) ⌝ }
 {
-    if less(a, b) {
+    if below(a, b) {
         return Order::Less;
     }
-    if less(b, a) {
+    if below(b, a) {
         return Order::Greater;
     }
     Order::Equal

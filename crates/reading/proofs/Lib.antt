@@ -2,6 +2,7 @@ pub mod Bytes
 pub mod Pass
 pub mod Leading
 pub mod Walk
+pub mod Rows
 pub mod Letters
 pub mod Split
 pub mod Names

@@ -3,7 +3,7 @@ use mathlib.Core.Path.{_≡_, refl, sym, ap, _∙_}
 use mathlib.Core.Logic.{_⊎_, inl, inr, ⊎-elim}
 use mathlib.Core.Bool.{true, cond}
 use mathlib.Core.List.{List, [], _∷_, _++_}
-use Prim.Native.Nat.{ℕ, zero, suc, _+_, _-_, _*_, _^_, _≤_, _<_, min}
+use Prim.Native.Nat.{ℕ, zero, suc, _+_, _-_, _*_, _^_, _≤_, _<_}
 use native.Mathlib.Nat.{pow-suc, sub-self, pow-zero, lt-of-lt-of-le}
 use native.Mathlib.Omega.{arith}
 use lib.Dec.{eqb}
@@ -14,7 +14,7 @@ use Rattle.meaning.specs.Reading.{isDigit, number}
 use Rattle.meaning.proofs.Numbers.{le-or, byte-digit, number-append, pow-le, eq-or}
 use Rattle.reading.specs.declared.scan.Found.{Found}
 use Rattle.reading.specs.declared.scan.Spans.{Spans}
-use Rattle.reading.specs.Scan.{isPlain, decimals, firstAt, secondAt, points, unpointed, withDigit, withPoint, Passing, Added, Stopped, Scanned}
+use Rattle.reading.specs.Scan.{isPlain, decimals, firstAt, secondAt, points, unpointed, noneFound, withDigit, withPoint, Passing, Added, Stopped, Scanned}
 use Rattle.reading.proofs.Bytes.{cond-same, drop-step, slice-more, digit-plain, point-plain, digit-no-point, decimals-more, decimals-none, points-more, points-same, unpointed-less, unpointed-more, first-here, first-later, second-next, second-later}
 
 -- ---- the decimal part
@@ -30,10 +30,7 @@ decimals-stop s i (inr e) =
 
 -- ---- the pass
 
-abbrev fresh : ℕ → Found
-fresh n = record { point = n; second = n; points = 0; value = 0 }
-
-pub passing-none : (s : List ℕ) (start : ℕ) → start ≤ length s → Passing s start start (fresh (length s))
+pub passing-none : (s : List ℕ) (start : ℕ) → start ≤ length s → Passing s start start (noneFound (length s))
 passing-none s start h =
     record { after = omega arith; within = h; few = omega arith; stop = refl; points = omega arith; point = refl; second = refl }
 
@@ -106,10 +103,10 @@ unpointed-append (x ∷ a) b =
     (λ e. rw (unpointed-more x (a ++ b) e, unpointed-more x a e, unpointed-append a b))
     (eq-or x 46)
 
-pub more-digits : (v b n k : ℕ) → v < 10 ^ n → b ≤ 57 → k ≡ suc n → v * 10 + (b - 48) < 10 ^ k
+more-digits : (v b n k : ℕ) → v < 10 ^ n → b ≤ 57 → k ≡ suc n → v * 10 + (b - 48) < 10 ^ k
 more-digits v b n k h l e = rw e (omega (arith, pow-suc 10 n))
 
-pub added-none : (s : List ℕ) (start : ℕ) → Added s start start (fresh (length s))
+pub added-none : (s : List ℕ) (start : ℕ) → Added s start start (noneFound (length s))
 unfolding unpointed number
 added-none s start = record { value = rw (slice-empty start s); small = rw (sub-self, pow-zero) (omega arith) }
 
@@ -132,18 +129,16 @@ module _ (s : List ℕ) (start i : ℕ) (m : Found) (a : Added s start i m) (l :
         small = lt-of-lt-of-le (a .small) (pow-le (omega arith));
       }
 
--- ---- the pass as a whole: it ends within the first 19 bytes, or after them
+-- ---- the pass as a whole
 
 module _ (s : List ℕ) (start : ℕ) (d : Spans) (p : Passing s start (d .stop) (d .found)) (t : Stopped s (d .stop)) where
-  scanned-with : d .found .value ≡ number 0 (unpointed (slice start (min (d .stop) (start + 19)) s)) → Scanned s start d
+  scanned-with : (length s ≤ start + 19 → d .found .value ≡ number 0 (unpointed (slice start (d .stop) s))) → Scanned s start d
   scanned-with v =
       let e = passing-end s start (d .stop) (d .found) p t in
       record { stop = e .stop; points = e .points; point = e .point; second = e .second; value = v; ended = t }
 
-  pub scanned-short : Added s start (d .stop) (d .found) → d .stop ≤ start + 19 → Scanned s start d
-  scanned-short a h =
-      let e : min (d .stop) (start + 19) ≡ d .stop = omega arith in scanned-with (rw e (a .value))
+  pub scanned-short : Added s start (d .stop) (d .found) → Scanned s start d
+  scanned-short a = scanned-with (λ _. a .value)
 
-  pub scanned-long : (m : Found) → Added s start (start + 19) m → start + 19 ≤ d .stop → d .found .value ≡ m .value → Scanned s start d
-  scanned-long m a h v =
-      let e : min (d .stop) (start + 19) ≡ start + 19 = omega arith in scanned-with (rw e (v ∙ a .value))
+  pub scanned-long : start + 19 < length s → Scanned s start d
+  scanned-long h = scanned-with (λ k. absurd (omega arith))

@@ -3,15 +3,14 @@ use mathlib.Core.Path.{_≡_, refl, sym, ap, _∙_}
 use mathlib.Core.Logic.{_⊎_, ⊎-elim}
 use mathlib.Core.Bool.{true, false, true≢false}
 use mathlib.Core.List.{List, [], _∷_, _++_}
-use Prim.Native.Nat.{ℕ, zero, suc, _+_, _-_, _^_, _≤_, _<_, min}
-use native.Mathlib.Nat.{lt-of-lt-of-le}
+use Prim.Native.Nat.{ℕ, zero, suc, _+_, _-_, _≤_, _<_, min}
 use native.Mathlib.Omega.{arith}
 use lib.Dec.{eqb, ltb}
 use lib.ListN.{length, take, drop, length-append, length-drop}
 use lib.Seq.{slice, take-take}
 use borrow.Author.Tests.{eqb-true, le-ltb, lt-ltb}
-use Rattle.meaning.specs.Reading.{isDigit, number, allDigits, allZeros, stripZeros, holds}
-use Rattle.meaning.proofs.Numbers.{both, both-of, digits-parts, number-append, number-lt, pow-le, eq-or}
+use Rattle.meaning.specs.Reading.{isDigit, allDigits, allZeros, stripZeros, holds}
+use Rattle.meaning.proofs.Numbers.{both, both-of, eq-or}
 use Rattle.reading.specs.declared.scan.Spans.{Spans}
 use Rattle.reading.specs.Scan.{isPlain, allPlain, decimals, firstAt, secondAt, points, unpointed, Scanned}
 use Rattle.reading.specs.Run.{without, run, ZerosTo, Walked}
@@ -164,6 +163,9 @@ module _ (s : List ℕ) (start : ℕ) (d : Spans) (c : Scanned s start d) (h : s
   pub points-width : d .found .points ≤ d .stop - start
   points-width = omega (arith, points-few part, c .points, c .stop)
 
+  pub fraction-few : d .stop - (d .found .point + 1) ≤ d .stop - start
+  fraction-few = omega (arith, first-low 46 (length s) start part fits, c .point)
+
   part-slice : part ≡ slice start (d .stop) s
   part-slice = decimals-slice s start ∙ rw (c .stop)
 
@@ -202,30 +204,6 @@ module _ (s : List ℕ) (start : ℕ) (d : Spans) (c : Scanned s start d) (h : s
 
     pub short-length : length (run (d .found .point) start (d .stop) s) ≡ d .stop - start - d .found .points
     short-length = rw run-whole (omega (arith, length-one (length s) start part fits, c .stop, c .points))
-
-    -- the bytes up to m wrote v; those after it are pushed behind
-    module _ (m v : ℕ) (k : start ≤ m) (l : m ≤ d .stop) (e : v ≡ number 0 (unpointed (slice start m s))) where
-      short-parts : run (d .found .point) start (d .stop) s ≡ run (d .found .point) start m s ++ run (d .found .point) m (d .stop) s
-      short-parts = run-parts (d .found .point) start m (d .stop) s k l stop-within
-
-      first-value : v ≡ number 0 (run (d .found .point) start m s)
-      first-value = e ∙ rw (short-value m k l)
-
-      pub rest-digits : allDigits (run (d .found .point) m (d .stop) s) ≡ true
-      rest-digits = digits-parts (run (d .found .point) start m s) _ (rw short-parts at (short-digits (d .stop) stop-low (omega arith))) .1
-
-      pub rest-number : number v (run (d .found .point) m (d .stop) s) ≡ number 0 (run (d .found .point) start (d .stop) s)
-      rest-number = rw (first-value, short-parts, number-append)
-
-      rest-length : length (run (d .found .point) start m s) + length (run (d .found .point) m (d .stop) s) ≡ d .stop - start - d .found .points
-      rest-length = sym (length-append (run (d .found .point) start m s) (run (d .found .point) m (d .stop) s)) ∙ ap length (sym short-parts) ∙ short-length
-
-      module _ (few : d .stop - start - d .found .points ≤ 34) where
-        pub rest-few : length (run (d .found .point) m (d .stop) s) ≤ 34
-        rest-few = omega (arith, rest-length)
-
-        pub rest-small : v < 10 ^ (34 - length (run (d .found .point) m (d .stop) s))
-        rest-small = rw first-value (lt-of-lt-of-le (number-lt _ (short-digits m k l)) (pow-le (omega (arith, rest-length))))
 
 -- ---- what is walked can be walked from after its zeros
 

@@ -99,15 +99,19 @@ module _ (s : List ℕ) (start : ℕ) (d : Spans) (c : Scanned s start d) (h : s
     pub end-wrong : (x : Shift) → d .stop - start ≡ d .found .points → x .number ≡ 7 → Shifted s start d x
     end-wrong x e q = gives-wrong x end-before (no-digit e) (q ∙ unfold numberOf in rw end-from)
 
-    pub end-right : (x : Shift) (f : ℕ) → (d .stop - start ≡ d .found .points → ⊥) → f ≡ d .stop - (d .found .point + 1) → f < 2 ^ 63 → x .number ≡ 0 → Stands (origin - f) x → Shifted s start d x
+    pub end-gives : (f : ℕ) → (d .stop - start ≡ d .found .points → ⊥) → f ≡ d .stop - (d .found .point + 1) → f < 2 ^ 63 → (g : Bool) → step3 s g (before 101 text) (from 101 text) ≡ step7 s g (origin - f) (stripZeros whole)
     unfolding step3 step4 step5
+    end-gives f e q l g =
+        rw (end-before, end-from, has-digit e) (step6-is g f origin q ∙ rw (le-leb f origin (small-origin f l)))
+
+    pub end-right : (x : Shift) (f : ℕ) → (d .stop - start ≡ d .found .points → ⊥) → f ≡ d .stop - (d .found .point + 1) → f < 2 ^ 63 → x .number ≡ 0 → Stands (origin - f) x → Shifted s start d x
     end-right x f e q l z k =
         inr (record {
           none = z;
           power = origin - f;
           stands = k;
           parted = parted-at s start sign end-before;
-          gives = λ g. rw (end-before, end-from, has-digit e) (step6-is g f origin q ∙ rw (le-leb f origin (small-origin f l)));
+          gives = end-gives f e q l;
         })
 
   -- ---- something after it

@@ -11,7 +11,7 @@ use lib.Dec.{eqb}
 use lib.ListN.{length, take, drop, replicate, length-replicate}
 use lib.Seq.{take-length, drop-length}
 use borrow.Author.Tests.{le-leb, lt-leb}
-use Rattle.meaning.specs.Reading.{Located, refusedAt, acceptedAs, low, high, number, allDigits, allZeros, holds, stripZeros, kept, lost, afterE, secondPoint, firstCut, step7, step8, step9, step10, step11}
+use Rattle.meaning.specs.Reading.{Located, refusedAt, acceptedAs, origin, low, high, number, allDigits, allZeros, holds, stripZeros, kept, lost, afterE, secondPoint, firstCut, step7, step8, step9, step10, step11}
 use Rattle.meaning.specs.Decimal.Decimal.{finite}
 use Rattle.meaning.specs.Refusals.Refusal.{invalidCoefficient, overflow, inexactRounding}
 use Rattle.meaning.proofs.Numbers.{le-or, no-point, digits-append, digits-zeros, zeros-zeros, zeros-number, number-split, strip-number, strip-digits, number-lt, pow-pos, pow-le, eq-or}
@@ -19,9 +19,17 @@ use Rattle.reading.proofs.Bytes.{true-or, holds-here, holds-later}
 
 -- ---- the range of x
 
+low-origin : low + 6176 ≡ origin
+unfolding low origin
+low-origin = refl
+
 pub range : high ≡ low + 12287
 unfolding low high
 range = refl
+
+-- the field of -f
+pub field-of : (f : ℕ) → f ≤ 6176 → (low ≤ origin - f) × (origin - f ≤ high) × (6176 - f ≡ origin - f - low)
+field-of f h = let e = low-origin in let r = range in (omega arith, omega arith, omega arith)
 
 -- ---- step 11
 

@@ -3,18 +3,16 @@ use mathlib.Core.Path.{_≡_, refl, sym, ap, _∙_}
 use mathlib.Core.Logic.{_⊎_, inl, inr, ⊎-elim}
 use mathlib.Core.Bool.{true, false}
 use mathlib.Core.List.{List, [], _∷_, _++_}
-use Prim.Native.Nat.{ℕ, suc, _+_, _-_, _*_, _^_, _≤_, _<_}
-use native.Mathlib.Nat.{add-zero, lt-of-lt-of-le}
+use Prim.Native.Nat.{ℕ, suc, _+_, _-_, _≤_, _<_}
+use native.Mathlib.Nat.{add-zero}
 use native.Mathlib.Omega.{arith}
-use lib.Dec.{lit≤}
 use lib.ListN.{length, getD, take, drop}
 use lib.Seq.{slice, slice-empty, take-at, drop-at, length-slice}
 use borrow.Author.Tests.{eq-eqb, ne-eqb}
-use Rattle.meaning.specs.Reading.{isDigit, number, allDigits, stripZeros, allZeros}
-use Rattle.meaning.proofs.Numbers.{le-or, both, byte-digit, pow-le, eq-or}
+use Rattle.meaning.specs.Reading.{stripZeros, allZeros}
+use Rattle.meaning.proofs.Numbers.{le-or, eq-or}
 use Rattle.reading.specs.Run.{without, run, counted, Offset, ZerosTo}
 use Rattle.reading.proofs.Bytes.{slice-step, slice-parts, without-skip, without-take}
-use Rattle.reading.proofs.Pass.{more-digits}
 
 -- ---- a byte more
 
@@ -47,6 +45,25 @@ unfolding run
 run-parts p i m t s h k l =
     let e : i + length (slice i m s) ≡ m = omega (arith, length-slice i m s (omega arith)) in
     rw (slice-parts i m t s h k l, without-append) (rw e)
+
+-- ---- without the byte at p
+
+without-apart : (p i : ℕ) (s : List ℕ) → (p < i) ⊎ (i + length s ≤ p) → without p i s ≡ s
+without-apart p i [] h = unfold without in refl
+without-apart p i (x ∷ s) h =
+    let n : i ≡ p → ⊥ = (λ e. ⊎-elim (λ k. omega arith) (λ k. omega arith) h) in
+    let r : (p < i + 1) ⊎ (i + 1 + length s ≤ p) = ⊎-elim (λ k. inl (omega arith)) (λ k. inr (omega arith)) h in
+    without-take p i x s n ∙ ap (λ (l : List ℕ). x ∷ l) (without-apart p (i + 1) s r)
+
+pub run-apart : (p i t : ℕ) (s : List ℕ) → (p < i) ⊎ (t ≤ p) → i ≤ t → t ≤ length s → run p i t s ≡ slice i t s
+unfolding run
+run-apart p i t s h k l =
+    let e : i + length (slice i t s) ≡ t = omega (arith, length-slice i t s l) in without-apart p i (slice i t s) (rw e h)
+
+pub run-across : (p i t : ℕ) (s : List ℕ) → i ≤ p → p < t → t ≤ length s → run p i t s ≡ slice i p s ++ slice (p + 1) t s
+run-across p i t s h k l =
+    run-parts p i p t s h (omega arith) l
+    ∙ rw (run-apart p i p s (inr (omega arith)) h (omega arith), run-skip p p t s k l refl, run-apart p (p + 1) t s (inl (omega arith)) (omega arith) l)
 
 -- ---- its length
 
@@ -163,61 +180,3 @@ module _ (p i t r : ℕ) (s : List ℕ) (z : ZerosTo p i t s r) where
 
   pub zeros-only : t ≤ r → allZeros (run p i t s) ≡ true
   zeros-only h = z .zeros ∙ eq-eqb r t (omega (arith, z .within))
-
--- ---- its number
-
--- the number v of the bytes up to k; those after it are digits, and few enough
-pub record NumberAt (p i t : ℕ) (s : List ℕ) (n k v : ℕ) : Type 0 where
-  pub after : i ≤ k
-  pub within : k ≤ t
-  pub digits : allDigits (run p k t s) ≡ true
-  pub few : length (run p k t s) ≤ 34
-  pub small : v < 10 ^ (34 - length (run p k t s))
-  pub same : number v (run p k t s) ≡ number n (run p i t s)
-
-module _ (p i t k v n : ℕ) (s : List ℕ) (a : NumberAt p i t s n k v) (h : k < t) (l : t ≤ length s) where
-  pub number-point : k ≡ p → NumberAt p i t s n (k + 1) v
-  number-point e =
-      let q = run-skip p k t s h l e in
-      record {
-        after = omega (arith, a .after);
-        within = omega arith;
-        digits = rw q at (a .digits);
-        few = rw q at (a .few);
-        small = rw q at (a .small);
-        same = rw q at (a .same);
-      }
-
-  module _ (e : k ≡ p → ⊥) where
-    run-cons : run p k t s ≡ getD s k 0 ∷ run p (k + 1) t s
-    run-cons = run-take p k t s h l e
-
-    pub number-byte : (48 ≤ getD s k 0) × (getD s k 0 ≤ 57)
-    unfolding allDigits
-    number-byte = byte-digit _ (both (isDigit (getD s k 0)) _ (rw run-cons at (a .digits)) .0)
-
-    small-next : v * 10 + (getD s k 0 - 48) < 10 ^ (34 - length (run p (k + 1) t s))
-    small-next =
-        let f = rw run-cons at (a .few) in
-        more-digits v (getD s k 0) _ _ (rw run-cons at (a .small)) (number-byte .1) (omega arith)
-
-    pub number-fits : v * 10 + (getD s k 0 - 48) < 2 ^ 128
-    number-fits = lt-of-lt-of-le (lt-of-lt-of-le small-next (pow-le {j = 34} (omega arith))) (lit≤ tt)
-
-    pub number-digit : NumberAt p i t s n (k + 1) (v * 10 + (getD s k 0 - 48))
-    unfolding allDigits number
-    number-digit =
-        record {
-          after = omega (arith, a .after);
-          within = omega arith;
-          digits = both (isDigit (getD s k 0)) _ (rw run-cons at (a .digits)) .1;
-          few = (let f = rw run-cons at (a .few) in omega arith);
-          small = small-next;
-          same = rw run-cons at (a .same);
-        }
-
-pub number-end : (p i t k v n : ℕ) (s : List ℕ) → NumberAt p i t s n k v → t ≤ k → v ≡ number n (run p i t s)
-unfolding number
-number-end p i t k v n s a h =
-    let e : k ≡ t = omega (arith, a .within) in
-    let q : run p k t s ≡ [] = rw e (run-empty p t s) in rw q at (a .same)

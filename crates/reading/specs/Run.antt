@@ -2,11 +2,11 @@
 use mathlib.Core.Path.{_≡_}
 use mathlib.Core.Bool.{true, cond}
 use mathlib.Core.List.{List, [], _∷_}
-use Prim.Native.Nat.{ℕ, _+_, _-_, _≤_, _<_, min, max}
+use Prim.Native.Nat.{ℕ, _+_, _-_, _^_, _≤_, _<_, min, max}
 use lib.Dec.{eqb, ltb}
 use lib.Seq.{slice}
 use lib.ListN.{length}
-use Rattle.meaning.specs.Reading.{stripZeros, allZeros, holds}
+use Rattle.meaning.specs.Reading.{allDigits, stripZeros, allZeros, holds}
 use Rattle.limbs.specs.declared.wide.Stand.{Stand}
 use Rattle.reading.specs.declared.scan.Spans.{Spans}
 use Rattle.reading.specs.Scan.{allPlain}
@@ -50,6 +50,21 @@ pub record Walked (s : List ℕ) (i : ℕ) (d : Spans) : Type 0 where
   pub within : d .stop ≤ length s
   pub plain : allPlain (run (d .found .point) i (d .stop) s) ≡ true
   pub second : (t : ℕ) → i ≤ t → t ≤ d .stop → holds 46 (run (d .found .point) i t s) ≡ ltb (d .found .second) t
+
+-- a row of digits from i up to t that, written behind v, make a number of at most 34 digits
+pub record Row (s : List ℕ) (i t v : ℕ) : Type 0 where
+  pub ordered : i ≤ t
+  pub within : t ≤ length s
+  pub digits : allDigits (slice i t s) ≡ true
+  pub few : t - i ≤ 34
+  pub small : v < 10 ^ (34 - (t - i))
+
+-- a text of n bytes is all decimal part, of at most 19 bytes, with a digit and at most one point
+pub record Plain (n start : ℕ) (d : Spans) : Type 0 where
+  pub end : d .stop ≡ n
+  pub few : d .stop - start ≤ 19
+  pub some : d .found .points < d .stop - start
+  pub one : d .found .points < 2
 
 -- steps 7 to 11 cut and pad nothing: x is in range, and `width` bytes have at most 34 digits and one point
 pub record Short (p : Stand) (width points : ℕ) : Type 0 where

@@ -3,7 +3,7 @@ use mathlib.Core.Path.{_≡_}
 use mathlib.Core.Logic.{_⊎_}
 use mathlib.Core.Bool.{Bool, true, false, cond, _&&_, _||_}
 use mathlib.Core.List.{List, [], _∷_}
-use Prim.Native.Nat.{ℕ, _+_, _-_, _*_, _^_, _≤_, _<_, min}
+use Prim.Native.Nat.{ℕ, _+_, _-_, _*_, _^_, _≤_, _<_}
 use lib.Dec.{eqb}
 use lib.ListN.{length, drop, getD}
 use lib.Seq.{slice}
@@ -46,6 +46,10 @@ unpointed (x ∷ s) = cond (eqb x 46) (unpointed s) (x ∷ unpointed s)
 
 -- ---- a step of the pass
 
+-- nothing is found yet in a text of n bytes
+abbrev pub noneFound : ℕ → Found
+noneFound n = record { point = n; second = n; points = 0; value = 0 }
+
 abbrev pub withDigit : Found → ℕ → Found
 withDigit m b =
     record { point = m .point; second = m .second; points = m .points; value = m .value * 10 + (b - 48) }
@@ -79,11 +83,11 @@ pub record Added (s : List ℕ) (start i : ℕ) (m : Found) : Type 0 where
 abbrev pub Stopped : List ℕ → ℕ → Type 0
 Stopped s i = (length s ≤ i) ⊎ (isPlain (getD s i 0) ≡ false)
 
--- ---- the whole pass
+-- ---- the whole pass; the digits of a text of at most 19 bytes are added up
 pub record Scanned (s : List ℕ) (start : ℕ) (d : Spans) : Type 0 where
   pub stop : d .stop ≡ start + length (decimals (drop start s))
   pub points : d .found .points ≡ points (decimals (drop start s))
   pub point : d .found .point ≡ firstAt 46 (length s) start (decimals (drop start s))
   pub second : d .found .second ≡ secondAt (length s) start (decimals (drop start s))
-  pub value : d .found .value ≡ number 0 (unpointed (slice start (min (d .stop) (start + 19)) s))
+  pub value : length s ≤ start + 19 → d .found .value ≡ number 0 (unpointed (slice start (d .stop) s))
   pub ended : Stopped s (d .stop)

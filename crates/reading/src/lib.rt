@@ -1,9 +1,11 @@
 // Text to value: document 01, 'Reading text', steps 1 to 11.
 ghost use mathlib.Core.Path.{_≡_};
+ghost use mathlib.Core.Bool.{true};
 ghost use Prim.Native.Nat.{_+_, _-_, _≤_};
 ghost use lib.ListN.{length};
-ghost use Rattle.meaning.specs.Reading.{signLength, readAt};
+ghost use Rattle.meaning.specs.Reading.{origin, signLength, stripZeros, readAt, step7};
 ghost use Rattle.reading.specs.Scan.{Scanned};
+ghost use Rattle.reading.specs.Run.{run, Plain};
 ghost use Rattle.reading.specs.Split.{startOf, Shifted};
 ghost use Rattle.reading.specs.Told.{Gives};
 use crate::answer::Answer;
@@ -68,6 +70,38 @@ fn start_of(first: u8) -> usize
     0
 }
 
+// The text is all decimal part, of at most 19 bytes, with a digit and at most one point.
+fn is_plain(length: usize, start: usize, d: Spans) -> bool
+    requires { ⌜ start ≤ d .stop ⌝ }
+    ensures { λ r. ⌜ (r ≡ true → Plain length start d) ⌝ }
+{
+    let stop = d.stop;
+    if stop != length {
+        return false;
+    }
+    let width = stop - start;
+    if 19 < width {
+        return false;
+    }
+    if width <= d.found.points {
+        return false;
+    }
+    if 2 <= d.found.points {
+        return false;
+    }
+    true
+}
+
+// Its value: the number of its digits, and the field of -F.
+fn plain(s: &[u8], start: usize, d: Spans, negative: bool) -> Answer
+    requires { ⌜ Scanned (now s) start d × (start ≤ length (now s)) × Plain (length (now s)) start d ⌝ }
+    ensures { λ r. ⌜ Gives (step7 (now (s .entry)) negative (origin - (d .stop - (d .found .point + 1))) (stripZeros (run (d .found .point) start (d .stop) (now (s .entry))))) r ⌝ }
+{
+    let f = fraction(d.found.point, d.stop);
+    let c = limbs::of_u64(d.found.value);
+    answer::finite(negative, 6176 - f as u32, c, round::digits(s, start, d))
+}
+
 // What a text reads as, and where it is refused: steps 1 to 11. A value that is accepted can be packed.
 pub fn read(s: &[u8]) -> Answer
     ensures { λ r. ⌜ Gives (readAt (now (s .entry))) r ⌝ }
@@ -79,6 +113,9 @@ pub fn read(s: &[u8]) -> Answer
     let negative = first == b'-';
     let start = start_of(first);
     let d = scan::scan(s, start);
+    if is_plain(s.len(), start, d) {
+        return plain(s, start, d, negative);
+    }
     if d.stop == start {
         return words::word(s, start, negative);
     }

@@ -1,11 +1,13 @@
 // The run of step 7 walked in place: the bytes of a text from one offset to another, but the one at the first point.
 ghost use mathlib.Core.Path.{_≡_};
 ghost use mathlib.Core.Bool.{true};
+ghost use mathlib.Core.List.{[], _∷_};
 ghost use Prim.Native.Nat.{_+_, _-_, _^_, _<_, _≤_};
 ghost use lib.ListN.{length};
+ghost use lib.Seq.{slice};
 ghost use Rattle.meaning.specs.Reading.{number, allDigits};
 ghost use Rattle.limbs.specs.Value.{value};
-ghost use Rattle.reading.specs.Run.{run, counted, Offset, ZerosTo};
+ghost use Rattle.reading.specs.Run.{run, counted, Offset, ZerosTo, Row};
 
 // Where the first byte other than `0` stands, or the end.
 pub fn first_other(s: &[u8], from: usize, to: usize, point: usize) -> usize
@@ -53,20 +55,69 @@ pub fn after(from: usize, n: usize, point: usize) -> usize
     at + 1
 }
 
+// The number of four digits. Their zeros together are 48 * 1111.
+fn four(a: u8, b: u8, c: u8, d: u8) -> u32
+    requires { ⌜ allDigits (a ∷ b ∷ c ∷ d ∷ []) ≡ true ⌝ }
+    ensures { λ r. ⌜ (r ≡ number 0 (a ∷ b ∷ c ∷ d ∷ [])) × (r < 10000) ⌝ }
+{
+    a as u32 * 1000 + b as u32 * 100 + c as u32 * 10 + d as u32 - 53328
+}
+
+// The number of the eight digits from i on.
+fn eight(s: &[u8], i: usize) -> u32
+    requires { ⌜ (i + 8 ≤ length (now s)) × (allDigits (slice i (i + 8) (now s)) ≡ true) ⌝ }
+    ensures { λ r. ⌜ r ≡ number 0 (slice i (i + 8) (now (s .entry))) ⌝ }
+{
+    let high = four(s[i], s[i + 1], s[i + 2], s[i + 3]);
+    let low = four(s[i + 4], s[i + 5], s[i + 6], s[i + 7]);
+    high * 10000 + low
+}
+
+// The number of a row of less than eight digits behind c.
+fn push_few(c: [u32; 4], s: &[u8], from: usize, to: usize) -> [u32; 4]
+    requires { ⌜ Row (now s) from to (value c) × (to < from + 8) ⌝ }
+    ensures { λ r. ⌜ value r ≡ number (value c) (slice from to (now (s .entry))) ⌝ }
+{
+    let mut v: u32 = 0;
+    let mut by: u32 = 1;
+    let mut i = from;
+    while i < to {
+        v = v * 10 + (s[i] - b'0') as u32;
+        by = by * 10;
+        i += 1;
+    }
+    let m = limbs::multiply(c, by, v);
+    m.low
+}
+
+// The number of a row of digits behind c.
+fn push_row(c: [u32; 4], s: &[u8], from: usize, to: usize) -> [u32; 4]
+    requires { ⌜ Row (now s) from to (value c) ⌝ }
+    ensures { λ r. ⌜ value r ≡ number (value c) (slice from to (now (s .entry))) ⌝ }
+{
+    let mut acc = c;
+    let mut i = from;
+    while 8 <= to - i {
+        let m = limbs::multiply(acc, 100000000, eight(s, i));
+        let next = m.low;
+        acc = next;
+        i += 8;
+    }
+    push_few(acc, s, i, to)
+}
+
 // The number of all digits: those before gave c.
 pub fn push_digits(c: [u32; 4], s: &[u8], from: usize, to: usize, point: usize) -> [u32; 4]
     requires { ⌜ (from ≤ to) × (to ≤ length (now s)) × (allDigits (run point from to (now s)) ≡ true) ⌝ }
     requires { ⌜ (length (run point from to (now s)) ≤ 34) × (value c < 10 ^ (34 - length (run point from to (now s)))) ⌝ }
     ensures { λ r. ⌜ value r ≡ number (value c) (run point from to (now (s .entry))) ⌝ }
 {
-    let mut acc = c;
-    let mut i = from;
-    while i < to {
-        if i != point {
-            let next = limbs::times_ten_plus(acc, (s[i] - b'0') as u32);
-            acc = next;
-        }
-        i += 1;
+    if point < from {
+        return push_row(c, s, from, to);
     }
-    acc
+    if to <= point {
+        return push_row(c, s, from, to);
+    }
+    let before = push_row(c, s, from, point);
+    push_row(before, s, point + 1, to)
 }

@@ -1,6 +1,6 @@
 pub mod Written
-pub mod Point
 pub mod Low
+pub mod Point
 pub mod Nines
 pub mod Texts
 pub mod Puts

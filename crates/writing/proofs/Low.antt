@@ -3,7 +3,7 @@ use mathlib.Core.Path.{_≡_, refl, sym, subst, _∙_}
 use mathlib.Core.Logic.{⊎-elim}
 use mathlib.Core.List.{List, [], _∷_, _++_, append-assoc, append-nil}
 use Prim.Native.Nat.{ℕ, zero, suc, _+_, _-_, _*_, _/_, _%_, _^_, _≤_, _<_}
-use native.Mathlib.Nat.{add-zero, mul-left-comm, pow-zero, pow-succ', div-add-mod', mod-lt, mod-eq-of-lt}
+use native.Mathlib.Nat.{add-zero, mul-left-comm, pow-zero, pow-succ', div-one, div-div-eq-div-mul, div-add-mod', mod-lt, mod-eq-of-lt}
 use native.Mathlib.Omega.{arith}
 use lib.ListN.{length, set, length-append}
 use Rattle.meaning.specs.Writing.{digitsBefore, decimal}
@@ -33,8 +33,13 @@ low-joined i (suc w) q r h =
     rw (e, d, m, low-joined i w q (r / 10) (omega arith), append-assoc)
 
 -- the last w digits, and the j before them
-low-split : (w j i n : ℕ) → j + w ≡ i → low i n ≡ low j (n / 10 ^ w) ++ low w (n % 10 ^ w)
+pub low-split : (w j i n : ℕ) → j + w ≡ i → low i n ≡ low j (n / 10 ^ w) ++ low w (n % 10 ^ w)
 low-split w j i n e = rw (e, div-add-mod') at (low-joined j w (n / 10 ^ w) (n % 10 ^ w) (mod-lt n (pow-pos w)))
+
+-- they are all that the lowest w digits see
+pub low-mod : (w n : ℕ) → low w n ≡ low w (n % 10 ^ w)
+unfolding low
+low-mod w n = low-split w 0 w n (omega arith)
 
 pub low-one : (r : ℕ) → r < 10 → low 1 r ≡ (48 + r) ∷ []
 unfolding low
@@ -86,6 +91,18 @@ pub turn : (at i n q r : ℕ) (b f : List ℕ) → 0 < i → at + i ≤ length b
 turn at i n q r b f h l e g k =
     rw (written-one (at + (i - 1)) (48 + r) b (omega arith), ← low-one r (omega arith)) (turns 1 at (i - 1) i n q r b f (omega arith) l e g k)
 
-pub done : (at i k n v : ℕ) (b b₀ : List ℕ) → i ≡ 0 → k ≡ length (decimal v) → written at (low i n) b ≡ written at (low k v) b₀ → b ≡ written at (decimal v) b₀
+-- what is left above the digits that are in their place
+pub tenth : {i : ℕ} (n : ℕ) → 0 < i → n / 10 / 10 ^ (i - 1) ≡ n / 10 ^ i
+tenth {i} n h =
+    let e : suc (i - 1) ≡ i = omega arith in
+    div-div-eq-div-mul n 10 (10 ^ (i - 1)) ∙ rw (← pow-succ' 10 (i - 1), e)
+
+pub done-above : (i k n v : ℕ) → i ≡ 0 → n / 10 ^ i ≡ v / 10 ^ k → n ≡ v / 10 ^ k
+done-above i k n v z h = let g = rw (z, pow-zero, div-one) at h in g
+
+pub done-low : (at i k n v : ℕ) (b b₀ : List ℕ) → i ≡ 0 → written at (low i n) b ≡ written at (low k v) b₀ → b ≡ written at (low k v) b₀
 unfolding low
-done at i k n v b b₀ z e h = sym (written-none at b) ∙ subst (λ (j : ℕ). written at (low j n) b ≡ written at (low k v) b₀) z h ∙ rw (low-all k v e)
+done-low at i k n v b b₀ z h = sym (written-none at b) ∙ subst (λ (j : ℕ). written at (low j n) b ≡ written at (low k v) b₀) z h
+
+pub done : (at i k n v : ℕ) (b b₀ : List ℕ) → i ≡ 0 → k ≡ length (decimal v) → written at (low i n) b ≡ written at (low k v) b₀ → b ≡ written at (decimal v) b₀
+done at i k n v b b₀ z e h = done-low at i k n v b b₀ z h ∙ rw (low-all k v e)

@@ -2,7 +2,7 @@
 use mathlib.Core.Path.{_≡_}
 use mathlib.Core.Bool.{Bool, cond}
 use mathlib.Core.List.{List, [], _∷_, _++_}
-use Prim.Native.Nat.{ℕ, zero, suc, _+_, _/_, _%_, _^_, _≤_, _<_}
+use Prim.Native.Nat.{ℕ, zero, suc, _+_, _*_, _/_, _%_, _^_, _≤_, _<_}
 use lib.Dec.{ltb}
 use lib.ListN.{length, take, drop}
 use Rattle.meaning.specs.Writing.{decimal, exponentText, signed}
@@ -44,3 +44,10 @@ pub record Tailed (a n : ℕ) : Type 0 where
 unfoldable pub low : ℕ → ℕ → List ℕ
 low zero n = []
 low (suc k) n = low k (n / 10) ++ (48 + n % 10) ∷ []
+
+-- n in chunks of nine digits, the lowest first
+pub record Chunks (n n₀ n₁ n₂ n₃ : ℕ) : Type 0 where
+  pub nine₀ : n₀ < 10 ^ 9
+  pub nine₁ : n₁ < 10 ^ 9
+  pub nine₂ : n₂ < 10 ^ 9
+  pub whole : n₀ + 10 ^ 9 * (n₁ + 10 ^ 9 * (n₂ + 10 ^ 9 * n₃)) ≡ n

@@ -19,35 +19,26 @@ at-top : (s : tie.Start) (j : ℕ) → value (s .args .t1) / 2 ^ (96 + j) ≡ ge
 at-top s j = top-bits (s .args .t1) (search needs) (limb s) j
 
 returns : tie.Need-returns
-returns c = c .special .ensures ∙ decode-nan _ _ (limb (c .before .before) 3) (at-top (c .before .before)) (c .before .if1 .taken)
+returns c =
+    let s = c .before .before .before in
+    c .finite .ensures
+    ∙ decode-first _ _ (limb s 3) (at-top s) (c .before .before .if1 .taken) _
+    (c .before .or-zero .ensures ∙ ap orZero (low-bits (s .args .t1) (search needs) (limb s)))
 
 returns-2 : tie.Need-returns-2
-returns-2 c = c .special2 .ensures ∙ decode-infinity _ _ (limb (c .before .before .before) 3) (at-top (c .before .before .before)) (omega arith) (c .before .if2 .taken)
+returns-2 c =
+    let s = c .before .before .before in
+    c .finite2 .ensures ∙ decode-second _ _ (limb s 3) (at-top s) (c .before .if2 .taken) (c .before .before .if1 .left)
 
 returns-3 : tie.Need-returns-3
-returns-3 c = c .finite .ensures ∙ decode-second _ _ (limb (c .before .before .before .before) 3) (at-top (c .before .before .before .before)) (omega arith) (c .before .if3 .taken)
+returns-3 c =
+    let s = c .before .before .before .before in
+    c .special .ensures ∙ decode-infinity _ _ (limb s 3) (at-top s) (c .before .if3 .taken) (c .before .before .if2 .left)
 
 returns-4 : tie.Need-returns-4
 returns-4 c =
-    let s = c .before .before .before .before .before in
-    c .finite2 .ensures
-    ∙ decode-first _ _ (limb s 3) (at-top s) (omega arith) _
-    (c .before .or-zero .ensures ∙ ap orZero (low-bits (s .args .t1) (search needs) (limb s)))
+    let s = c .before .before .before .before in
+    c .special2 .ensures ∙ decode-nan _ _ (limb s 3) (at-top s) (c .before .if3 .left)
 
 pub fields-of-words-spec : {M : Type 1} → statement M
-fields-of-words-spec =
-    tie.close
-    (tie.spec
-    (λ c. search needs)
-    (λ c κs. search needs)
-    returns
-    (λ c κs. search needs)
-    returns-2
-    (λ c κs. search needs)
-    returns-3
-    (λ c. search needs)
-    (λ c. search needs)
-    (λ c. search needs)
-    (λ c κs. search needs)
-    (λ c κs. search needs)
-    returns-4)
+fields-of-words-spec = tie.close (search (tie.spec, returns, returns-2, returns-3, returns-4, needs))

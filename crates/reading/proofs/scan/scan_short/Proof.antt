@@ -20,7 +20,9 @@ abbrev μ-loop : tie.MeasureT-loop
 
 loop-holds : tie.Need-loop-holds Inv-loop μ-loop
 loop-holds c =
-    let a = c .before in (a .pre .0, passing-none (a .args .s .now) (a .args .start) (omega arith), added-none (a .args .s .now) (a .args .start))
+    let a = c .before .before in
+    let e = c .none-found .ensures in
+    (a .pre .0, rw e (passing-none (a .args .s .now) (a .args .start) (omega arith)), rw e (added-none (a .args .s .now) (a .args .start)))
 
 with-digit-requires : tie.Need-with-digit-requires Inv-loop μ-loop
 with-digit-requires c κs =
@@ -35,12 +37,12 @@ returns c =
 
 with-point-requires : tie.Need-with-point-requires Inv-loop μ-loop
 with-point-requires c κs =
-    omega (arith, c .before .before .before .before .before .loop .inv .1 .few, c .before .before .before .before .before .before .before .good .0 .1)
+    omega (arith, c .before .before .before .before .before .loop .inv .1 .few, c .before .before .before .before .before .before .before .before .good .0 .1)
 
 loop-again : tie.Need-loop-again Inv-loop μ-loop
 loop-again c =
     let l = c .before .before .before .before .loop in
-    let a = c .before .before .before .before .before .before in
+    let a = c .before .before .before .before .before .before .before in
     let s = a .args .s .now in
     let h : l .i < length s = omega arith in
     let g = c .before .is-digit .ensures in
@@ -64,6 +66,7 @@ scan-short-spec =
     (tie.spec
     Inv-loop
     μ-loop
+    (λ c κs. search needs)
     loop-holds
     (λ c. search needs)
     (λ c κs. search needs)

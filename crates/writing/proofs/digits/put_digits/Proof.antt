@@ -17,7 +17,7 @@ digits : (s : tie.Start) → low (s .args .k) (value (s .args .c)) ≡ decimal (
 digits s = low-all _ _ (s .pre .0 .count)
 
 put-many-requires : tie.Need-put-many-requires
-put-many-requires c κs = let s = c .before .before .before in (s .pre .0 .some, below s, s .pre .1)
+put-many-requires c κs = let s = c .before .before .before in (search needs, s .pre .0 .few, below s, s .pre .1)
 
 lead : (c : tie.After-low) → (c .low .result ≡ value (c .before .before .before .before .args .c)) × (c .low .result < 10 ^ 9)
 lead c = let s = c .before .before .before .before in few-low (s .args .k) _ (omega arith) (below s) (c .low .ensures)

@@ -1,0 +1,219 @@
+-- A row of digits: one law for any count of them, and the eight that are read at once.
+use mathlib.Core.Path.{_≡_, refl, sym, ap, _∙_}
+use mathlib.Core.Logic.{_⊎_}
+use mathlib.Core.Bool.{Bool, true, _&&_, and-assoc, and-true}
+use mathlib.Core.List.{List, [], _∷_, _++_}
+use Prim.Native.Nat.{ℕ, zero, suc, _+_, _-_, _*_, _^_, _≤_, _<_}
+use native.Mathlib.Nat.{lt-of-lt-of-le, sub-self, pow-zero, pow-suc}
+use native.Mathlib.Omega.{arith}
+use lib.Arith.{digits-lt}
+use lib.Pow.{pow-add}
+use lib.Dec.{lit≤}
+use lib.ListN.{length, getD, length-append}
+use lib.Seq.{slice, slice-empty, length-slice}
+use Rattle.meaning.specs.Reading.{isDigit, number, allDigits}
+use Rattle.meaning.proofs.Numbers.{both, byte-digit, digits-append, digits-parts, number-append, number-split, number-shift, number-lt, pow-le}
+use Rattle.limbs.proofs.Laws.{none-carried}
+use Rattle.reading.specs.declared.scan.Found.{Found}
+use Rattle.reading.specs.Scan.{Passing}
+use Rattle.reading.specs.Run.{run, Row}
+use Rattle.reading.proofs.Bytes.{slice-step, slice-more, slice-parts}
+use Rattle.reading.proofs.Pass.{passing-digit}
+use Rattle.reading.proofs.Walk.{run-apart, run-across}
+
+-- ---- eight bytes
+
+byte-step : (s : List ℕ) (t i j : ℕ) → i + 1 ≡ j → j ≤ t → t ≤ length s → slice i t s ≡ getD s i 0 ∷ slice j t s
+byte-step s t i j e h l = rw (← e) (slice-step i t s (omega arith) l)
+
+eight-bytes : (s : List ℕ) (i : ℕ) → i + 8 ≤ length s → slice i (i + 8) s ≡ getD s i 0 ∷ getD s (i + 1) 0 ∷ getD s (i + 2) 0 ∷ getD s (i + 3) 0 ∷ getD s (i + 4) 0 ∷ getD s (i + 5) 0 ∷ getD s (i + 6) 0 ∷ getD s (i + 7) 0 ∷ []
+eight-bytes s i h =
+    let step : (k m : ℕ) → k + 1 ≡ m → m ≤ 8 → slice (i + k) (i + 8) s ≡ getD s (i + k) 0 ∷ slice (i + m) (i + 8) s =
+    (λ k m e l. byte-step s (i + 8) (i + k) (i + m) (omega arith) (omega arith) h) in
+    rw (byte-step s (i + 8) i (i + 1) refl (omega arith) h, step 1 2 refl (omega arith), step 2 3 refl (omega arith), step 3 4 refl (omega arith), step 4 5 refl (omega arith), step 5 6 refl (omega arith), step 6 7 refl (omega arith), step 7 8 refl (omega arith), slice-empty (i + 8) s)
+
+-- the digits of four bytes, one by one
+pub four-digits : (a b c d : ℕ) → allDigits (a ∷ b ∷ c ∷ d ∷ []) ≡ true → ((48 ≤ a) × (a ≤ 57)) × ((48 ≤ b) × (b ≤ 57)) × ((48 ≤ c) × (c ≤ 57)) × ((48 ≤ d) × (d ≤ 57))
+unfolding allDigits
+four-digits a b c d e =
+    let p = both (isDigit a) _ e in
+    let q = both (isDigit b) _ (p .1) in
+    let r = both (isDigit c) _ (q .1) in
+    let u = both (isDigit d) _ (r .1) in (byte-digit a (p .0), byte-digit b (q .0), byte-digit c (r .0), byte-digit d (u .0))
+
+-- and their number: the zeros of four digits together are 48 * 1111
+pub four-number : (a b c d : ℕ) → allDigits (a ∷ b ∷ c ∷ d ∷ []) ≡ true → (a * 1000 + b * 100 + c * 10 + d - 53328 ≡ number 0 (a ∷ b ∷ c ∷ d ∷ [])) × (a * 1000 + b * 100 + c * 10 + d - 53328 < 10000)
+unfolding number
+four-number a b c d e = let h = four-digits a b c d e in (omega arith, omega arith)
+
+pub eight-parts : (s : List ℕ) (i : ℕ) → i + 8 ≤ length s → allDigits (slice i (i + 8) s) ≡ true → (allDigits (getD s i 0 ∷ getD s (i + 1) 0 ∷ getD s (i + 2) 0 ∷ getD s (i + 3) 0 ∷ []) ≡ true) × (allDigits (getD s (i + 4) 0 ∷ getD s (i + 5) 0 ∷ getD s (i + 6) 0 ∷ getD s (i + 7) 0 ∷ []) ≡ true)
+eight-parts s i h e = digits-parts (getD s i 0 ∷ getD s (i + 1) 0 ∷ getD s (i + 2) 0 ∷ getD s (i + 3) 0 ∷ []) (getD s (i + 4) 0 ∷ getD s (i + 5) 0 ∷ getD s (i + 6) 0 ∷ getD s (i + 7) 0 ∷ []) (rw (eight-bytes s i h) at e)
+
+-- the number of eight digits is that of four and of four more
+pub eight-number : (s : List ℕ) (i : ℕ) → i + 8 ≤ length s → number 0 (getD s i 0 ∷ getD s (i + 1) 0 ∷ getD s (i + 2) 0 ∷ getD s (i + 3) 0 ∷ []) * 10000 + number 0 (getD s (i + 4) 0 ∷ getD s (i + 5) 0 ∷ getD s (i + 6) 0 ∷ getD s (i + 7) 0 ∷ []) ≡ number 0 (slice i (i + 8) s)
+eight-number s i h = sym (ap (number 0) (eight-bytes s i h) ∙ number-split (getD s i 0 ∷ getD s (i + 1) 0 ∷ getD s (i + 2) 0 ∷ getD s (i + 3) 0 ∷ []) (getD s (i + 4) 0 ∷ getD s (i + 5) 0 ∷ getD s (i + 6) 0 ∷ getD s (i + 7) 0 ∷ []))
+
+all-tests : (a b c d e f g h : Bool) → (((((((a && b) && c) && d) && e) && f) && g) && h) ≡ (a && (b && (c && (d && (e && (f && (g && (h && true))))))))
+all-tests a b c d e f g h = simp (and-assoc, and-true)
+
+-- the tests of eight bytes are one test of all
+pub eight-tests : (s : List ℕ) (i : ℕ) → i + 8 ≤ length s → (((((((isDigit (getD s i 0) && isDigit (getD s (i + 1) 0)) && isDigit (getD s (i + 2) 0)) && isDigit (getD s (i + 3) 0)) && isDigit (getD s (i + 4) 0)) && isDigit (getD s (i + 5) 0)) && isDigit (getD s (i + 6) 0)) && isDigit (getD s (i + 7) 0)) ≡ allDigits (slice i (i + 8) s)
+unfolding allDigits
+eight-tests s i h = rw (eight-bytes s i h) (all-tests (isDigit (getD s i 0)) (isDigit (getD s (i + 1) 0)) (isDigit (getD s (i + 2) 0)) (isDigit (getD s (i + 3) 0)) (isDigit (getD s (i + 4) 0)) (isDigit (getD s (i + 5) 0)) (isDigit (getD s (i + 6) 0)) (isDigit (getD s (i + 7) 0)))
+
+-- ---- digits passed
+
+-- a row of digits is no more than that to the pass
+passing-row : (s : List ℕ) (start n i t : ℕ) (m : Found) → i + n ≡ t → t ≤ length s → allDigits (slice i t s) ≡ true → Passing s start i m → Passing s start t m
+unfolding allDigits
+passing-row s start zero i t m e l d p = let q : i ≡ t = omega arith in rw q at p
+passing-row s start (suc n) i t m e l d p =
+    let h = both (isDigit (getD s i 0)) (allDigits (slice (i + 1) t s)) (rw (slice-step i t s (omega arith) l) at d) in
+    passing-row s start n (i + 1) t m (omega arith) l (h .1) (passing-digit s start i m p (omega arith) (m .value) (h .0))
+
+pub passing-on : (s : List ℕ) (start i t : ℕ) (m : Found) → i ≤ t → t ≤ length s → allDigits (slice i t s) ≡ true → Passing s start i m → Passing s start t m
+passing-on s start i t m h = passing-row s start (t - i) i t m (omega arith)
+
+pub row-none : (s : List ℕ) (i : ℕ) → allDigits (slice i i s) ≡ true
+unfolding allDigits
+row-none s i = rw (slice-empty i s)
+
+pub row-on : (s : List ℕ) (f i t : ℕ) → f ≤ i → i ≤ t → t ≤ length s → allDigits (slice f i s) ≡ true → allDigits (slice i t s) ≡ true → allDigits (slice f t s) ≡ true
+row-on s f i t h k l p q = rw (slice-parts f i t s h k l) (digits-append (slice f i s) (slice i t s) p q)
+
+-- ---- a row behind v
+
+number-room : (v m : ℕ) (a : List ℕ) → allDigits a ≡ true → v < 10 ^ m → number v a < 10 ^ (m + length a)
+number-room v m a d h = rw (number-shift v a, pow-add) (digits-lt h (number-lt a d))
+
+-- a run is one row, or two rows with the point between them
+module _ (p i t v : ℕ) (s : List ℕ) (k : i ≤ t) (l : t ≤ length s) (d : allDigits (run p i t s) ≡ true) (f : length (run p i t s) ≤ 34) (m : v < 10 ^ (34 - length (run p i t s))) where
+  pub row-whole : (p < i) ⊎ (t ≤ p) → Row s i t v
+  row-whole h =
+      let e = run-apart p i t s h k l in
+      let n : length (slice i t s) ≡ t - i = length-slice i t s l in
+      record { ordered = k; within = l; digits = rw e at d; few = rw (e, n) at f; small = rw (e, n) at m }
+
+  module _ (h : i ≤ p) (j : p < t) where
+    across : run p i t s ≡ slice i p s ++ slice (p + 1) t s
+    across = run-across p i t s h j l
+
+    parts : (allDigits (slice i p s) ≡ true) × (allDigits (slice (p + 1) t s) ≡ true)
+    parts = digits-parts (slice i p s) (slice (p + 1) t s) (rw across at d)
+
+    total : length (run p i t s) ≡ (p - i) + (t - (p + 1))
+    total =
+        rw (across, length-append) (omega (arith, length-slice i p s (omega arith), length-slice (p + 1) t s l))
+
+    pub row-before : Row s i p v
+    row-before =
+        record {
+          ordered = h;
+          within = omega arith;
+          digits = parts .0;
+          few = omega (arith, total);
+          small = lt-of-lt-of-le m (pow-le (omega (arith, total)));
+        }
+
+    pub row-behind : Row s (p + 1) t (number v (slice i p s))
+    row-behind =
+        let e : 34 - (t - (p + 1)) ≡ 34 - length (run p i t s) + length (slice i p s) = omega (arith, total, length-slice i p s (omega arith)) in
+        record {
+          ordered = omega arith;
+          within = l;
+          digits = parts .1;
+          few = omega (arith, total);
+          small = rw e (number-room v _ (slice i p s) (parts .0) m);
+        }
+
+    pub row-both : number (number v (slice i p s)) (slice (p + 1) t s) ≡ number v (run p i t s)
+    row-both = sym (ap (number v) across ∙ number-append v (slice i p s) (slice (p + 1) t s))
+
+-- ---- and its first w digits
+
+module _ (s : List ℕ) (i k t v w : ℕ) (r : Row s i t v) (e : i + w ≡ k) (h : k ≤ t) where
+  row-parts : slice i t s ≡ slice i k s ++ slice k t s
+  row-parts = slice-parts i k t s (omega arith) h (r .within)
+
+  row-length : length (slice i k s) ≡ w
+  row-length = omega (arith, length-slice i k s (omega (arith, r .within)))
+
+  pub row-digits : allDigits (slice i k s) ≡ true
+  row-digits = digits-parts (slice i k s) (slice k t s) (rw row-parts at (r .digits)) .0
+
+  row-next : v * 10 ^ w + number 0 (slice i k s) < 10 ^ (34 - (t - k))
+  row-next =
+      let n : 34 - (t - k) ≡ 34 - (t - i) + length (slice i k s) = omega (arith, r .few, row-length) in
+      rw (← row-length, ← number-shift v (slice i k s), n) (number-room v (34 - (t - i)) (slice i k s) row-digits (r .small))
+
+  pub row-fits : v * 10 ^ w + number 0 (slice i k s) < 2 ^ 128
+  row-fits = lt-of-lt-of-le (lt-of-lt-of-le row-next (pow-le {j = 34} (omega arith))) (lit≤ tt)
+
+  -- what is multiplied and added is that number, and nothing is carried out
+  pub row-pushed : (c : ℕ) {p by n : ℕ} → by ≡ 10 ^ w → n ≡ number 0 (slice i k s) → p + 2 ^ 128 * c ≡ v * by + n → p ≡ v * 10 ^ w + number 0 (slice i k s)
+  row-pushed c {p} {by} {n} f g q = none-carried (2 ^ 128) c (q ∙ (rw (f, g) refl)) row-fits
+
+  pub row-rest : Row s k t (v * 10 ^ w + number 0 (slice i k s))
+  row-rest =
+      record {
+        ordered = h;
+        within = r .within;
+        digits = digits-parts (slice i k s) (slice k t s) (rw row-parts at (r .digits)) .1;
+        few = omega (arith, r .few);
+        small = row-next;
+      }
+
+  pub row-same : number v (slice i t s) ≡ number (v * 10 ^ w + number 0 (slice i k s)) (slice k t s)
+  row-same =
+      rw (row-parts, number-append) (ap (λ (n : ℕ). number n (slice k t s)) (number-shift v (slice i k s) ∙ ap (λ (n : ℕ). v * 10 ^ n + number 0 (slice i k s)) row-length))
+
+row-end : (s : List ℕ) (t v : ℕ) → number v (slice t t s) ≡ v
+unfolding number
+row-end s t v = rw (slice-empty t s)
+
+-- ---- less than eight digits of a row, one by one
+
+-- v is the number of those up to i, and `by` the power of ten that makes room for them
+pub record FewAt (s : List ℕ) (f t i v by : ℕ) : Type 0 where
+  pub after : f ≤ i
+  pub within : i ≤ t
+  pub power : by ≡ 10 ^ (i - f)
+  pub same : v ≡ number 0 (slice f i s)
+  pub small : v < by
+
+pub few-none : (s : List ℕ) (f t : ℕ) → f ≤ t → FewAt s f t f 0 1
+unfolding number
+few-none s f t h =
+    record { after = omega arith; within = h; power = rw (sub-self, pow-zero); same = rw (slice-empty f s); small = omega arith }
+
+module _ (s : List ℕ) (f t i v by c : ℕ) (r : Row s f t c) (a : FewAt s f t i v by) (h : i < t) where
+  pub few-byte : (48 ≤ getD s i 0) × (getD s i 0 ≤ 57)
+  unfolding allDigits
+  few-byte =
+      let q = rw (slice-parts f i t s (a .after) (omega arith) (r .within)) at (r .digits) in
+      let d = rw (slice-step i t s h (r .within)) at (digits-parts (slice f i s) (slice i t s) q .1) in
+      byte-digit _ (both (isDigit (getD s i 0)) _ d .0)
+
+  pub few-room : t < f + 8 → by ≤ 1000000
+  few-room l = rw (a .power) (pow-le {j = 6} (omega (arith, a .after)))
+
+  pub few-more : FewAt s f t (i + 1) (v * 10 + (getD s i 0 - 48)) (by * 10)
+  unfolding number
+  few-more =
+      let n : i + 1 - f ≡ suc (i - f) = omega (arith, a .after) in
+      record {
+        after = omega (arith, a .after);
+        within = omega arith;
+        power = rw (n, pow-suc, ← a .power) (omega arith);
+        same = rw (slice-more s f i (a .after) (omega (arith, r .within)), number-append, ← a .same);
+        small = omega (arith, a .small, few-byte);
+      }
+
+-- and all of them at once behind c
+pub few-end : (s : List ℕ) (f t i v by c : ℕ) → Row s f t c → FewAt s f t i v by → t ≤ i → (k : ℕ) {p : ℕ} → p + 2 ^ 128 * k ≡ c * by + v → p ≡ number c (slice f t s)
+few-end s f t i v by c r a h k q =
+    let e : i ≡ t = omega (arith, a .within) in
+    let w : f + (t - f) ≡ t = omega (arith, r .ordered) in
+    let l : t ≤ t = omega arith in
+    row-pushed s f t t c (t - f) r w l k (a .power ∙ rw e) (a .same ∙ rw e) q
+    ∙ sym (row-same s f t t c (t - f) r w l ∙ row-end s t _)
