@@ -20,7 +20,7 @@ use Rattle.limbs.specs.declared.Order.{Order}
 use Rattle.limbs.specs.declared.Carried.{Carried}
 use Rattle.limbs.specs.declared.Order.the-variants.{Less, Greater}
 use Rattle.limbs.proofs.Counting.{counts-few}
-use Rattle.limbs.proofs.Laws.{value-four, of-halves}
+use Rattle.limbs.proofs.Laws.{value-four, of-halves, order-less, order-greater}
 use Rattle.comparing.specs.Told.{toldOf, turnedOf}
 
 -- ---- a number of four limbs, by its lower two
@@ -55,12 +55,6 @@ lowest-limb a l f z e p =
     rw (value-four a l, z) (one-limb _ _ f (rw (value-four a l, z) at h))
 
 -- ---- two numbers
-
-order-greater : (m n : ℕ) → n < m → order m n ≡ Greater
-order-greater m n h = rw (le-ltb m n (omega arith), lt-ltb n m h)
-
-order-less : (m n : ℕ) → m < n → order m n ≡ Less
-order-less m n h = rw (lt-ltb m n h)
 
 pub order-turned : (m n : ℕ) → turnedOf (order m n) ≡ order n m
 order-turned m n =

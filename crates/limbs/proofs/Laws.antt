@@ -14,6 +14,8 @@ use lib.Arith.{digits-div, digits-mod}
 use borrow.Author.Tests.{lt-ltb, le-ltb, ltb-true, ltb-false}
 use Rattle.meaning.proofs.Numbers.{le-or}
 use Rattle.limbs.specs.Value.{value}
+use Rattle.limbs.specs.Order.{order}
+use Rattle.limbs.specs.declared.Order.the-variants.{Less, Equal, Greater}
 
 -- ---- four limbs, one by one
 
@@ -105,11 +107,26 @@ below {t} {x} {y} {m} {n} f g d =
 
 -- by halves: the upper decide where they differ, and the lower where they do not
 module _ (m n : ℕ) {x y : ℕ} (e : x ≡ m / 2 ^ 64) (f : y ≡ n / 2 ^ 64) where
-  pub upper-decide : (x ≡ y → ⊥) → ltb x y ≡ ltb m n
-  upper-decide d = same-test x y m n (λ h. omega arith) (λ h. omega (arith, d))
+  pub upper-below : x < y → m < n
+  upper-below h = omega arith
 
-  pub lower-decide : {l k : ℕ} → x ≡ y → l ≡ m % 2 ^ 64 → k ≡ n % 2 ^ 64 → ltb l k ≡ ltb m n
-  lower-decide {l} {k} d g h = same-test l k m n (λ p. omega arith) (λ p. omega arith)
+  module _ {l k : ℕ} (same : x ≡ y) (g : l ≡ m % 2 ^ 64) (h : k ≡ n % 2 ^ 64) where
+    pub lower-below : l < k → m < n
+    lower-below p = omega arith
+
+    pub halves-same : l ≡ k → m ≡ n
+    halves-same p = omega arith
+
+-- and as the enum says it
+module _ (m n : ℕ) where
+  pub order-less : m < n → order m n ≡ Less
+  order-less h = rw (lt-ltb m n h)
+
+  pub order-greater : n < m → order m n ≡ Greater
+  order-greater h = rw (le-ltb m n (omega arith), lt-ltb n m h)
+
+  pub order-equal : m ≡ n → order m n ≡ Equal
+  order-equal h = rw (le-ltb m n (omega arith), le-ltb n m (omega arith))
 
 -- ---- carries
 

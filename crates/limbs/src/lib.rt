@@ -73,32 +73,31 @@ pub fn less(a: [u32; 4], b: [u32; 4]) -> bool
     a[0] < b[0]
 }
 
-// The same by halves: shorter in `compare`, whose limbs stand in registers, and longer in the reader, which has them in memory.
-fn below(a: [u32; 4], b: [u32; 4]) -> bool
-    ensures { λ r. ⌜ r ≡ ltb (value a) (value b) ⌝ }
-{
-    let x = high(a);
-    let y = high(b);
-    if x != y {
-        return x < y;
-    }
-    low(a) < low(b)
-}
-
 pub enum Order {
     Less,
     Equal,
     Greater,
 }
 
-// The order of a and b.
+// The order of a and b, by halves: a comparison has them in registers. Reader and writer have limbs in memory, and `less` is shorter
+// there.
 pub fn compare(a: [u32; 4], b: [u32; 4]) -> Order
     ensures { λ r. ⌜ r ≡ order (value a) (value b) ⌝ }
 {
-    if below(a, b) {
+    let x = high(a);
+    let y = high(b);
+    if x != y {
+        if x < y {
+            return Order::Less;
+        }
+        return Order::Greater;
+    }
+    let l = low(a);
+    let k = low(b);
+    if l < k {
         return Order::Less;
     }
-    if below(b, a) {
+    if k < l {
         return Order::Greater;
     }
     Order::Equal

@@ -1,18 +1,15 @@
--- The point in a text of digits. They are written one byte further on, and those before the point are then moved back; or first those behind
--- the point, then the point and those before it.
+-- The point in a text of digits, two ways: the digits are written one byte further on, and those before the point are then moved
+-- back; or those behind the point are written first, then the point and those before it.
 use mathlib.Core.Path.{_≡_, refl, sym, ap, subst, _∙_}
 use mathlib.Core.List.{List, [], _∷_, _++_, append-assoc}
 use Prim.Native.Nat.{ℕ, _+_, _-_, _/_, _^_, _≤_, _<_}
-use native.Mathlib.Nat.{div-lt-iff-lt-mul}
 use native.Mathlib.Omega.{arith}
-use lib.Pow.{pow-add}
 use lib.ListN.{length, take, drop, set, getD, length-append, length-drop}
 use lib.Seq.{length-take-le, take-at, drop-at, drop-drop, getD-drop, take-append-le, take-take, drop-append-le}
-use Rattle.meaning.proofs.Numbers.{pow-pos}
 use Rattle.writing.specs.Pieces.{low}
 use Rattle.writing.specs.Written.{written}
-use Rattle.writing.proofs.Written.{written-none, written-one, length-written, written-before, Filling, push, push-next}
-use Rattle.writing.proofs.Low.{length-low, low-split, low-mod}
+use Rattle.writing.proofs.Written.{written-one, length-written, written-before, Filling, push, push-next}
+use Rattle.writing.proofs.Low.{length-low, low-split}
 
 -- a write leaves what stands beyond it
 beyond : (at r : ℕ) (s b : List ℕ) → at ≤ length b → getD (written at s b) (at + length s + r) 0 ≡ getD b (at + length s + r) 0
@@ -74,9 +71,9 @@ module _ (at m : ℕ) (ds b : List ℕ) (within : m ≤ length ds) (fits : at + 
       sym (drop-drop m (at + 1) (written (at + 1) ds b)) ∙ rw point-drop (drop-append-le m ds rest within) in
       f ∙ rw (e, t, written-is at u (written (at + 1) ds b), point-take, k, p, r, written-is at (take m ds ++ 46 ∷ drop m ds) b, l, q) (simp append-assoc)
 
--- ---- the k digits of v, from the last on
+-- ---- the digits behind the point, then the point and the digits before it
 
--- the digits before the point, and the point, which stands already
+-- the point stands already, and the digits before it are put
 pub front-in : (at m v : ℕ) (b : List ℕ) {d : List ℕ} → at + m < length b → d ≡ written at (low m v) (set b (at + m) 46) → d ≡ written at (low m v ++ 46 ∷ []) b
 front-in at m v b h e =
     e ∙ rw (written-one (at + m) 46 b h) (written-before at (at + m) (low m v) (46 ∷ []) b (rw length-low) (omega arith))
@@ -84,22 +81,12 @@ front-in at m v b h e =
 pub front-long : (at m v : ℕ) (b : List ℕ) {d : List ℕ} → at + m < length b → d ≡ written at (low m v ++ 46 ∷ []) b → length d ≡ length b
 front-long at m v b h e = ap length e ∙ length-written at (low m v ++ 46 ∷ []) b (simp (length-append, length-low) (omega arith))
 
--- no digit stands before it
-pub front-none : (at m v : ℕ) (b : List ℕ) → m ≡ 0 → at + m < length b → set b (at + m) 46 ≡ written at (low m v ++ 46 ∷ []) b
-unfolding low
-front-none at m v b z h = let e : low m v ≡ [] = rw z in front-in at m v b h (rw e (sym (written-none at (set b (at + m) 46))))
-
 pub around : (at k m v : ℕ) (b : List ℕ) {c d : List ℕ} → m ≤ k → at + k < length b → c ≡ written (at + m + 1) (low (k - m) v) b → d ≡ written at (low m (v / 10 ^ (k - m)) ++ 46 ∷ []) c → d ≡ written at (take m (low k v) ++ 46 ∷ drop m (low k v)) b
 around at k m v b h l e f =
     let w = k - m in
     let q = v / 10 ^ w in
-    let s : low k v ≡ low m q ++ low w v = low-split w m k v (omega arith) ∙ rw (← low-mod w v) in
+    let s : low k v ≡ low m q ++ low w v = low-split w m k v (omega arith) in
     let n : length (low m q ++ 46 ∷ []) ≡ m + 1 = length-append (low m q) (46 ∷ []) ∙ rw length-low in
     f
     ∙ rw (e, written-before at (at + m + 1) (low m q ++ 46 ∷ []) (low w v) b (rw n (omega arith)) (omega arith), s, take-at (low m q) (low w v) m (length-low m q), drop-at (low m q) (low w v) m (length-low m q))
     (simp append-assoc)
-
-pub front-below : (k m v : ℕ) → m ≤ k → v < 10 ^ k → v / 10 ^ (k - m) < 10 ^ m
-front-below k m v h l =
-    let e : m + (k - m) ≡ k = omega arith in
-    div-lt-iff-lt-mul (pow-pos (k - m)) .1 (rw (← pow-add, e) l)

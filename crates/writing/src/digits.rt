@@ -1,4 +1,4 @@
-// The decimal digits of a coefficient, into a lent buffer, nine at a time.
+// The decimal digits of a number, into a lent buffer, from the last on.
 ghost use mathlib.Core.Path.{_≡_};
 ghost use mathlib.Core.List.{[], _∷_, _++_};
 ghost use Prim.Native.Nat.{_+_, _*_, _/_, _^_, _<_, _≤_};
@@ -8,22 +8,33 @@ ghost use Rattle.meaning.specs.Writing.{decimal};
 ghost use Rattle.writing.specs.Pieces.{Sized, Chunks, low, pointAt};
 ghost use Rattle.writing.specs.Written.{written};
 
+// The last n digits of v, from `at` on, and what stands before them: 7025 by two -> 25, and 70 is left.
+pub fn put_low(buf: &mut [u8], at: usize, n: usize, v: u32) -> u32
+    requires { ⌜ at + n ≤ length (now buf) ⌝ }
+    ensures { λ r. ⌜ (r ≡ v / 10 ^ n) × (now (buf .exit) ≡ written at (low n v) (now (buf .entry))) ⌝ }
+{
+    let mut rest = v;
+    let mut j = n;
+    while 0 < j {
+        j -= 1;
+        // `rest % 10` would cost a second division
+        let tenth = rest / 10;
+        buf[at + j] = b'0' + (rest - tenth * 10) as u8;
+        rest = tenth;
+    }
+    rest
+}
+
 // The k digits of v, which has no more, from `at` on; zeros stand for those that it has not: 70 in nine -> 000000070
 fn put_few(buf: &mut [u8], at: usize, k: usize, v: u32)
     requires { ⌜ (0 < k) × (v < 10 ^ k) × (at + k ≤ length (now buf)) ⌝ }
     ensures { λ _. ⌜ now (buf .exit) ≡ written at (low k v) (now (buf .entry)) ⌝ }
 {
-    let mut rest = v;
-    let mut i = k - 1;
-    while 0 < i {
-        // `rest % 10` would cost a second division
-        let tenth = rest / 10;
-        buf[at + i] = b'0' + (rest - tenth * 10) as u8;
-        rest = tenth;
-        i -= 1;
-    }
-    buf[at] = b'0' + rest as u8;
+    let first = put_low(buf, at + 1, k - 1, v);
+    buf[at] = b'0' + first as u8;
 }
+
+// ---- nine digits at a time
 
 // A number in two parts: its last nine digits, and what stands before them.
 struct Cut {
@@ -72,27 +83,45 @@ fn to_nines(a0: u32, a1: u32, a2: u32, a3: u32) -> Nines
     }
 }
 
-// The k digits of c, which has no more, from `at` on: nine and nine from the last on, and the few that are left in front.
+// The k digits of n0 + 10^9·n1, which has no more, from `at` on: the chunk n0, and what is left before it.
+fn put_two_chunks(buf: &mut [u8], at: usize, k: usize, n0: u32, n1: u32)
+    requires { ⌜ (9 < k) × (at + k ≤ length (now buf)) × (n0 < 10 ^ 9) × (n0 + 10 ^ 9 * n1 < 10 ^ k) ⌝ }
+    ensures { λ _. ⌜ now (buf .exit) ≡ written at (low k (n0 + 10 ^ 9 * n1)) (now (buf .entry)) ⌝ }
+{
+    put_few(buf, at + (k - 9), 9, n0);
+    put_few(buf, at, k - 9, n1);
+}
+
+// The same of three chunks, the last of which may be none.
+fn put_three_chunks(buf: &mut [u8], at: usize, k: usize, n0: u32, n1: u32, n2: u32)
+    requires { ⌜ (9 < k) × (at + k ≤ length (now buf)) × (n0 < 10 ^ 9) × (n1 < 10 ^ 9) × (n0 + 10 ^ 9 * (n1 + 10 ^ 9 * n2) < 10 ^ k) ⌝ }
+    ensures { λ _. ⌜ now (buf .exit) ≡ written at (low k (n0 + 10 ^ 9 * (n1 + 10 ^ 9 * n2))) (now (buf .entry)) ⌝ }
+{
+    put_few(buf, at + (k - 9), 9, n0);
+    if k <= 18 {
+        put_few(buf, at, k - 9, n1);
+    } else {
+        put_two_chunks(buf, at, k - 9, n1, n2);
+    }
+}
+
+// The k digits of c, which has no more, from `at` on, chunk by chunk.
 fn put_many(buf: &mut [u8], at: usize, k: usize, c: [u32; 4])
     requires { ⌜ (9 < k) × (k ≤ 34) × (value c < 10 ^ k) × (at + k ≤ length (now buf)) ⌝ }
     ensures { λ _. ⌜ now (buf .exit) ≡ written at (low k (value c)) (now (buf .entry)) ⌝ }
 {
-    let e = to_nines(c[0], c[1], c[2], c[3]);
-    put_few(buf, at + (k - 9), 9, e.n0);
+    let n = to_nines(c[0], c[1], c[2], c[3]);
+    put_few(buf, at + (k - 9), 9, n.n0);
     if k <= 18 {
-        put_few(buf, at, k - 9, e.n1);
-        return;
+        put_few(buf, at, k - 9, n.n1);
+    } else {
+        put_three_chunks(buf, at, k - 9, n.n1, n.n2, n.n3);
     }
-    put_few(buf, at + (k - 18), 9, e.n1);
-    if k <= 27 {
-        put_few(buf, at, k - 18, e.n2);
-        return;
-    }
-    put_few(buf, at + (k - 27), 9, e.n2);
-    put_few(buf, at, k - 27, e.n3);
 }
 
-// The digits of c, of which there are k, from `at` on. Everyday numbers have few, and are spared the chunks.
+// ---- a coefficient
+
+// The digits of c, of which there are k, from `at` on. Everyday numbers have few, all in the lowest limb, and are spared the chunks.
 pub fn put_digits(buf: &mut [u8], at: usize, k: usize, c: [u32; 4])
     requires { ⌜ Sized (value c) k × (at + k ≤ length (now buf)) ⌝ }
     ensures { λ _. ⌜ now (buf .exit) ≡ written at (decimal (value c)) (now (buf .entry)) ⌝ }
@@ -100,42 +129,24 @@ pub fn put_digits(buf: &mut [u8], at: usize, k: usize, c: [u32; 4])
     if 9 < k {
         put_many(buf, at, k, c);
     } else {
-        put_few(buf, at, k, limbs::low(c) as u32);
+        put_few(buf, at, k, c[0]);
     }
-}
-
-// The last n digits of v, from `at` on, and what stands before them: 7025 by two -> 25, and 70 is left.
-fn put_low(buf: &mut [u8], at: usize, n: usize, v: u32) -> u32
-    requires { ⌜ at + n ≤ length (now buf) ⌝ }
-    ensures { λ r. ⌜ (r ≡ v / 10 ^ n) × (now (buf .exit) ≡ written at (low n v) (now (buf .entry))) ⌝ }
-{
-    let mut rest = v;
-    let mut j = n;
-    while 0 < j {
-        j -= 1;
-        let tenth = rest / 10;
-        buf[at + j] = b'0' + (rest - tenth * 10) as u8;
-        rest = tenth;
-    }
-    rest
 }
 
 // The m digits of v, which has no more, and a point behind them, from `at` on.
 fn put_front(buf: &mut [u8], at: usize, m: usize, v: u32)
-    requires { ⌜ (v < 10 ^ m) × (at + m < length (now buf)) ⌝ }
+    requires { ⌜ (0 < m) × (v < 10 ^ m) × (at + m < length (now buf)) ⌝ }
     ensures { λ _. ⌜ now (buf .exit) ≡ written at (low m v ++ 46 ∷ []) (now (buf .entry)) ⌝ }
 {
     buf[at + m] = b'.';
-    if 0 < m {
-        put_few(buf, at, m, v);
-    }
+    put_few(buf, at, m, v);
 }
 
 // The k digits of v, which has no more, with a point after the first m, from `at` on; none is moved.
 pub fn put_around(buf: &mut [u8], at: usize, k: usize, m: usize, v: u32)
-    requires { ⌜ (v < 10 ^ k) × (m ≤ k) × (at + k < length (now buf)) ⌝ }
+    requires { ⌜ (v < 10 ^ k) × (0 < m) × (m ≤ k) × (at + k < length (now buf)) ⌝ }
     ensures { λ _. ⌜ now (buf .exit) ≡ written at (pointAt m (low k v)) (now (buf .entry)) ⌝ }
 {
-    let rest = put_low(buf, at + m + 1, k - m, v);
-    put_front(buf, at, m, rest);
+    let before = put_low(buf, at + m + 1, k - m, v);
+    put_front(buf, at, m, before);
 }

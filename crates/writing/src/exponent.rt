@@ -1,4 +1,5 @@
 // The end of a text in exponential notation. Here f is the exponent of the first digit + 6177.
+use crate::digits;
 use crate::pieces;
 ghost use mathlib.Core.Path.{_≡_};
 ghost use mathlib.Core.List.{_∷_};
@@ -38,27 +39,13 @@ pub fn tail_len(f: u32) -> usize
     2
 }
 
-// The digits of v, of which there are k, from `at` on.
-fn put_number(buf: &mut [u8], at: usize, k: usize, v: u32)
-    requires { ⌜ (k ≡ length (decimal v)) × (at + k ≤ length (now buf)) ⌝ }
-    ensures { λ _. ⌜ now (buf .exit) ≡ written at (decimal v) (now (buf .entry)) ⌝ }
-{
-    let mut rest = v;
-    let mut i = k;
-    while 0 < i {
-        i -= 1;
-        buf[at + i] = b'0' + (rest % 10) as u8;
-        rest = rest / 10;
-    }
-}
-
 // `E`, a mark and the digits of v, of which there are k, from `at` on.
 fn put_marked(buf: &mut [u8], at: usize, mark: u8, k: usize, v: u32)
     requires { ⌜ (k ≡ length (decimal v)) × (at + 2 + k ≤ length (now buf)) ⌝ }
     ensures { λ _. ⌜ now (buf .exit) ≡ written at (69 ∷ mark ∷ decimal v) (now (buf .entry)) ⌝ }
 {
     pieces::put_two(buf, at, b'E', mark);
-    put_number(buf, at + 2, k, v);
+    digits::put_low(buf, at + 2, k, v);
 }
 
 // `E`, `+` or `-`, and the exponent, n bytes in all, from `at` on.

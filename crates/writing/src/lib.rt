@@ -39,11 +39,14 @@ fn text(buf: &mut [u8], s: &[u8]) -> Put
 fn infinity(buf: &mut [u8], negative: bool) -> Put
     ensures { λ r. ⌜ Puts (signed negative (bytes "Infinity")) (now (buf .entry)) r (now (buf .exit)) ⌝ }
 {
-    if negative {
-        text(buf, b"-Infinity")
-    } else {
-        text(buf, b"Infinity")
+    let at = pieces::sign_len(negative);
+    let n = at + 8;
+    if buf.len() < n {
+        return Put::NoRoom;
     }
+    pieces::put_sign(buf, negative);
+    pieces::put_all(buf, at, b"Infinity");
+    Put::Done(n)
 }
 
 // Plain notation: the digits, with a point in or before them where p, the exponent without its sign, is not 0.

@@ -72,9 +72,10 @@ fn put_point(buf: &mut [u8], at: usize, m: usize)
     buf[at + m] = b'.';
 }
 
-// The k digits of c with a point after the first m, from `at` on. Of many, those before the point are put one byte too far on and moved back.
+// The k digits of c with a point after the first m, from `at` on. Of many, those before the point are put one byte too far on
+// and moved back.
 pub fn put_pointed(buf: &mut [u8], at: usize, k: usize, m: usize, c: [u32; 4])
-    requires { ⌜ Sized (value c) k × (m ≤ k) × (at + k < length (now buf)) ⌝ }
+    requires { ⌜ Sized (value c) k × (0 < m) × (m ≤ k) × (at + k < length (now buf)) ⌝ }
     ensures { λ _. ⌜ now (buf .exit) ≡ written at (pointAt m (decimal (value c))) (now (buf .entry)) ⌝ }
 {
     if k <= 9 {

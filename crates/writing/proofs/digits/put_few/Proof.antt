@@ -1,59 +1,36 @@
-use mathlib.Core.Path.{_≡_, refl}
-use Prim.Native.Nat.{_+_, _≤_, _<_}
+use Prim.Native.Nat.{_<_}
 use native.Mathlib.Omega.{arith}
-use lib.ListN.{length, length-set}
 use borrow.Author.Needs.{needs}
-use Rattle.writing.specs.Pieces.{low}
-use Rattle.writing.specs.Written.{written}
-use Rattle.writing.proofs.Nines.{Left, left-all, left-digit, left-one, left-last}
+use Rattle.writing.proofs.Low.{before-below, first-put}
 use Rattle.writing.proofs.digits.put_few.Statement.{statement}
 use Rattle.writing.proofs.digits.put_few.Tie as tie
 
-abbrev Inv-loop : tie.InvT-loop
-Inv-loop buf₀ at k v rest₀ i₀ buf rest i = (i < k) × (rest ≤ v) × (length buf ≡ length buf₀) × Left at (i + 1) rest buf (written at (low k v) buf₀)
+first : (c : tie.After-put-low) → c .put-low .result < 10
+first c =
+    let s = c .before .before .before in
+    rw (c .put-low .ensures .0) (before-below _ 1 (s .args .k) _ (omega (arith, s .pre .0)) (s .pre .1))
 
-abbrev μ-loop : tie.MeasureT-loop
-μ-loop buf₀ at k v rest₀ i₀ buf rest i = i
+cast-buf : tie.Need-cast-buf
+cast-buf c = let h = first (c .before .before) in search needs
 
-loop-holds : tie.Need-loop-holds Inv-loop μ-loop
-loop-holds c = let p = c .pre in (search needs, search needs, refl, left-all _ _ _ _ _ (omega arith) (p .0) (p .1) (p .2))
+add-buf : tie.Need-add-buf
+add-buf c = let h = first (c .before .before) in search needs
 
-loop-again : tie.Need-loop-again Inv-loop μ-loop
-loop-again c =
-    let l = c .before .loop in
-    (search needs, search needs, simp length-set (l .inv .2), left-digit (l .inv .3) (c .loop-test .taken) refl (omega arith))
-
-digit : (c : tie.After-loop Inv-loop μ-loop) → c .before .loop .rest < 10
-digit c = left-one (c .before .loop .inv .3) (omega arith)
-
-cast-buf-2 : tie.Need-cast-buf-2 Inv-loop μ-loop
-cast-buf-2 c = let h = digit c in search needs
-
-add-buf-3 : tie.Need-add-buf-3 Inv-loop μ-loop
-add-buf-3 c = let h = digit c in search needs
-
-returns : tie.Need-returns Inv-loop μ-loop
-returns c = left-last (c .before .loop .inv .3) (omega arith)
+returns : tie.Need-returns
+returns c =
+    let x = c .before .before in
+    let p = x .before .before .before .pre in
+    first-put _ _ _ _ (p .0) (p .1) (p .2) (x .put-low .ensures .1) (x .put-low .ensures .0)
 
 pub put-few-spec : {M : Type 1} → statement M
 put-few-spec =
     tie.close
     (tie.spec
-    Inv-loop
-    μ-loop
-    (λ c. search needs)
-    loop-holds
     (λ c. search needs)
     (λ c. search needs)
-    (λ c. search needs)
-    (λ c. search needs)
-    (λ c. search needs)
-    (λ c. search needs)
-    (λ c. search needs)
-    (λ c. search needs)
-    loop-again
-    cast-buf-2
-    add-buf-3
+    (λ c κs. search needs)
+    cast-buf
+    add-buf
     (λ c. search needs)
     (λ c. search needs)
     returns)

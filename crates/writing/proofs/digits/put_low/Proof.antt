@@ -5,7 +5,7 @@ use lib.ListN.{length, length-set}
 use borrow.Author.Needs.{needs}
 use Rattle.writing.specs.Pieces.{low}
 use Rattle.writing.specs.Written.{written}
-use Rattle.writing.proofs.Low.{turn, tenth, done-low, done-above}
+use Rattle.writing.proofs.Low.{turn, tenth, done}
 use Rattle.writing.proofs.digits.put_low.Statement.{statement}
 use Rattle.writing.proofs.digits.put_low.Tie as tie
 
@@ -28,7 +28,7 @@ loop-again c =
 returns : tie.Need-returns Inv-loop μ-loop
 returns c =
     let l = c .before .loop in
-    (done-above (l .j) _ (l .rest) _ (omega arith) (l .inv .3), done-low _ (l .j) _ (l .rest) _ (l .buf) _ (omega arith) (l .inv .4))
+    done _ (l .j) _ (l .rest) _ (l .buf) _ (omega arith) (l .inv .3) (l .inv .4)
 
 pub put-low-spec : {M : Type 1} → statement M
 put-low-spec =

@@ -22,7 +22,7 @@ put-around-requires : tie.Need-put-around-requires
 put-around-requires c κs =
     let s = c .before .before .before in
     let h = c .before .if1 .taken in
-    (rw (limb s h) (below s h), s .pre .1, s .pre .2)
+    (rw (limb s h) (below s h), s .pre .1, s .pre .2, s .pre .3)
 
 returns : tie.Need-returns
 returns c =

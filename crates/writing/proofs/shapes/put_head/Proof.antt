@@ -10,7 +10,7 @@ use Rattle.writing.proofs.shapes.put_head.Tie as tie
 put-pointed-requires : tie.Need-put-pointed-requires
 put-pointed-requires c κs =
     let h = rw (lt-ltb _ _ (c .before .if1 .taken)) at (c .before .before .before .pre .1) in
-    (c .before .before .before .pre .0, search needs, omega arith)
+    (c .before .before .before .pre .0, omega arith, search needs, omega arith)
 
 put-digits-requires : tie.Need-put-digits-requires
 put-digits-requires c κs =
