@@ -10,7 +10,7 @@ use mir.Val.{Fits}
 use Rattle.limbs.specs.Value.{value}
 use Rattle.limbs.proofs.Laws.{value-four}
 use Rattle.meaning.proofs.Numbers.{pow-le}
-use Rattle.writing.specs.Pieces.{low}
+use Rattle.writing.specs.Pieces.{low, Chunks}
 use Rattle.writing.specs.Written.{written}
 use Rattle.writing.proofs.Written.{length-written}
 use Rattle.writing.proofs.Low.{length-low, low-mod, low-put, before-below}
@@ -33,6 +33,16 @@ pub whole-chunks : (a₀ a₁ a₂ a₃ n₀ n₁ n₂ q₀ q₁ q₂ : ℕ) →
     n₂ + 10 ^ 9 * q₂ ≡ q₁ + a₂ * 18 + a₃ * 228162514 →
     n₀ + 10 ^ 9 * (n₁ + 10 ^ 9 * (n₂ + 10 ^ 9 * (q₂ + a₃ * 79))) ≡ value (a₀ ∷ a₁ ∷ a₂ ∷ a₃ ∷ [])
 whole-chunks a₀ a₁ a₂ a₃ n₀ n₁ n₂ q₀ q₁ q₂ e f g = omega arith
+
+pub chunks-of : (a : List ℕ) → length a ≡ 4 → {n₀ n₁ n₂ n₃ : ℕ} → Chunks (value (getD a 0 0 ∷ getD a 1 0 ∷ getD a 2 0 ∷ getD a 3 0 ∷ [])) n₀ n₁ n₂ n₃ → Chunks (value a) n₀ n₁ n₂ n₃
+chunks-of a l h = rw (value-four a l) h
+
+module _ {n n₀ n₁ n₂ n₃ : ℕ} (all : Chunks n n₀ n₁ n₂ n₃) where
+  pub chunks-below : {m : ℕ} → n < m → n₀ + 10 ^ 9 * (n₁ + 10 ^ 9 * (n₂ + 10 ^ 9 * n₃)) < m
+  chunks-below h = rw (all .whole) h
+
+  pub chunks-put : (at k : ℕ) (b : List ℕ) {d : List ℕ} → d ≡ written at (low k (n₀ + 10 ^ 9 * (n₁ + 10 ^ 9 * (n₂ + 10 ^ 9 * n₃)))) b → d ≡ written at (low k n) b
+  chunks-put at k b e = e ∙ rw (all .whole)
 
 -- their sums fit: p and q are what is carried, and a, b, c are limbs
 pub second-fits : {p a b c : ℕ} → p < 2 ^ 35 → Fits w32 a → Fits w32 b → c < 2 ^ 17 → Fits w64 (p + a * 4 + b * 446744073 + c * 264337593)
@@ -73,6 +83,10 @@ last-nine r q h =
 -- k digits are the nine, and k - 9 before them
 pub chunk-below : (k r q : ℕ) → 9 < k → r < 10 ^ 9 → r + 10 ^ 9 * q < 10 ^ k → q < 10 ^ (k - 9)
 chunk-below k r q h n l = rw (before-nine r q n) (before-below 9 (k - 9) k (r + 10 ^ 9 * q) (omega arith) l)
+
+-- and so has a chunk of what is left
+pub first-below : {m : ℕ} (r q : ℕ) → r + 10 ^ 9 * q < m → r < m
+first-below r q h = omega arith
 
 module _ (at k r : ℕ) (b : List ℕ) {c : List ℕ} (many : 9 < k) (room : at + k ≤ length b) (e : c ≡ written (at + (k - 9)) (low 9 r) b) where
   pub chunk-room : at + (k - 9) ≤ length c

@@ -1,7 +1,6 @@
 use Prim.Native.Nat.{_+_, _-_, _*_, _^_, _<_}
-use native.Mathlib.Omega.{arith}
 use borrow.Author.Needs.{needs}
-use Rattle.writing.proofs.Nines.{chunk-below, chunk-room, chunk-put, chunk-few}
+use Rattle.writing.proofs.Nines.{first-below, chunk-below, chunk-room, chunk-put, chunk-few}
 use Rattle.writing.proofs.digits.put_three_chunks.Statement.{statement}
 use Rattle.writing.proofs.digits.put_three_chunks.Tie as tie
 
@@ -13,7 +12,7 @@ put-few-requires-2 : tie.Need-put-few-requires-2
 put-few-requires-2 c κs =
     let x = c .before .before .before .before in
     let s = x .before .before .before in
-    (search needs, omega (arith, left s), chunk-room _ _ _ _ (s .pre .0) (s .pre .1) (x .put-few .ensures))
+    (search needs, first-below _ _ (left s), chunk-room _ _ _ _ (s .pre .0) (s .pre .1) (x .put-few .ensures))
 
 put-two-chunks-requires : tie.Need-put-two-chunks-requires
 put-two-chunks-requires c κs =
