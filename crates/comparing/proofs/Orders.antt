@@ -10,7 +10,7 @@ use mir.Syntax.{w32}
 use mir.Val.{Fits}
 use lib.Pow.{pow-add}
 use lib.ListN.{length, getD}
-use borrow.Author.Tests.{lt-ltb, le-ltb, ltb-true, ltb-false, eqb-true, eqb-false, ne-eqb}
+use borrow.Author.Tests.{le-ltb, ltb-true, ltb-false, eqb-true, eqb-false, ne-eqb}
 use Rattle.meaning.specs.Order.{compared, scaled}
 use Rattle.meaning.proofs.Numbers.{by-test, pow-pos, pow-le}
 use Rattle.limbs.specs.Value.{value}

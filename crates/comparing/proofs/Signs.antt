@@ -156,7 +156,8 @@ pub equals-itself : (u : Fields) → isNan (u .kind) ≡ false → relation (sai
 unfolding said relation
 equals-itself u d = itself (u .kind) d
   where
-    itself : (k : Kind) → isNan k ≡ false → relation (saidBy k (u .negative) (u .exponent) (value (u .coefficient))) (saidBy k (u .negative) (u .exponent) (value (u .coefficient))) ≡ equal
+    itself : (k : Kind) → isNan k ≡ false →
+        relation (saidBy k (u .negative) (u .exponent) (value (u .coefficient))) (saidBy k (u .negative) (u .exponent) (value (u .coefficient))) ≡ equal
     itself (Nan q) d = absurd (true≢false d)
     itself Infinity d = alike (u .negative) 1
     itself Finite d = alike (u .negative) (scaled (value (u .coefficient)) (u .exponent) (u .exponent))

@@ -16,7 +16,7 @@ use mir.Val.{Fits}
 use Rattle.meaning.specs.Decimal.{InRange}
 use Rattle.meaning.specs.Decimal.Decimal.{nan, infinity, finite}
 use Rattle.meaning.specs.Layout.{stored, bytesOf, orZero, decode, encode, bitOf}
-use Rattle.meaning.specs.Bits.{bits, bit}
+use Rattle.meaning.specs.Bits.{bit}
 use Rattle.meaning.proofs.Numbers.{le-or, by-test}
 use Rattle.meaning.proofs.Fields.{encodes-finite, decodes-nan, decodes-infinity, decodes-second, decodes-first}
 use Rattle.limbs.specs.Value.{value}
@@ -54,7 +54,8 @@ half-step r m n a b c d e f g h p q = omega arith
 pub two-limbs : (r m : ℕ) → r % 2 ^ 32 + 2 ^ 32 * (r / 2 ^ 32 + 2 ^ 32 * m) ≡ r + 2 ^ 64 * m
 two-limbs r m = omega arith
 
-half-fits : {a b c d e f g h : ℕ} → Fits w8 a → Fits w8 b → Fits w8 c → Fits w8 d → Fits w8 e → Fits w8 f → Fits w8 g → Fits w8 h → eight a b c d e f g h < 2 ^ 64
+half-fits : {a b c d e f g h : ℕ} → Fits w8 a → Fits w8 b → Fits w8 c → Fits w8 d → Fits w8 e → Fits w8 f → Fits w8 g →
+    Fits w8 h → eight a b c d e f g h < 2 ^ 64
 half-fits p q r s t u v w = omega arith
 
 lower-of : (n r m : ℕ) → r < 2 ^ 64 → r + 2 ^ 64 * m ≡ n → r ≡ n % 2 ^ 64
@@ -71,7 +72,8 @@ module _ (b : List ℕ) (l : length b ≡ 16) (f : (i : ℕ) → Fits w8 (getD b
       lower-of (stored b) r _ (rw e (half-fits (f 0) (f 1) (f 2) (f 3) (f 4) (f 5) (f 6) (f 7)))
       (half-step r _ _ _ _ _ _ _ _ _ _ e refl ∙ sym (ap stored (listed 16 b l)))
 
-  pub upper-half : r ≡ eight (getD b 8 0) (getD b 9 0) (getD b 10 0) (getD b 11 0) (getD b 12 0) (getD b 13 0) (getD b 14 0) (getD b 15 0) → r ≡ stored b / 2 ^ 64
+  pub upper-half : r ≡ eight (getD b 8 0) (getD b 9 0) (getD b 10 0) (getD b 11 0) (getD b 12 0) (getD b 13 0) (getD b 14 0) (getD b 15 0) →
+      r ≡ stored b / 2 ^ 64
   unfolding stored
   upper-half e =
       upper-of (stored b) _ r _ (half-fits (f 0) (f 1) (f 2) (f 3) (f 4) (f 5) (f 6) (f 7))

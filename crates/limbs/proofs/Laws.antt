@@ -37,33 +37,34 @@ fits-step B x n f h = omega (arith, mul-le-mul-left (2 ^ 32) h)
 pub value-fits : {x₀ x₁ x₂ x₃ : ℕ} → Fits w32 x₀ → Fits w32 x₁ → Fits w32 x₂ → Fits w32 x₃ → value (x₀ ∷ x₁ ∷ x₂ ∷ x₃ ∷ []) < 2 ^ 128
 value-fits f₀ f₁ f₂ f₃ = fits-step _ _ _ f₀ (fits-step _ _ _ f₁ (fits-step _ _ _ f₂ (fits-step 1 _ 0 f₃ (omega arith))))
 
--- ---- the lower two limbs
+-- ---- halves: two limbs, and the n above them
 
-two-low : {x y : ℕ} (n : ℕ) → Fits w32 x → Fits w32 y → y * 2 ^ 32 + x ≡ (x + 2 ^ 32 * (y + 2 ^ 32 * n)) % 2 ^ 64
+two-low : {x y : ℕ} (n : ℕ) → Fits w32 x → Fits w32 y → x + 2 ^ 32 * y ≡ (x + 2 ^ 32 * (y + 2 ^ 32 * n)) % 2 ^ 64
 two-low n f g = omega arith
-
-two-long : (x y n : ℕ) → (n ≡ 0 → ⊥) → 2 ^ 64 ≤ x + 2 ^ 32 * (y + 2 ^ 32 * n)
-two-long x y n h = omega arith
 
 two-high : {x y : ℕ} (n : ℕ) → Fits w32 x → Fits w32 y → n ≡ (x + 2 ^ 32 * (y + 2 ^ 32 * n)) / 2 ^ 64
 two-high n f g = omega arith
 
--- the upper two as they stand in the value of four
-upper : (x y : ℕ) → y * 2 ^ 32 + x ≡ value (x ∷ y ∷ [])
-upper x y = omega arith
+two-long : (x y n : ℕ) → (n ≡ 0 → ⊥) → 2 ^ 64 ≤ x + 2 ^ 32 * (y + 2 ^ 32 * n)
+two-long x y n h = omega arith
+
+-- the highest limb as it stands in the value of four
+highest-limb : (x y : ℕ) → x + 2 ^ 32 * y ≡ value (x ∷ y ∷ [])
+highest-limb x y = omega arith
 
 module _ (a : List ℕ) (l : length a ≡ 4) where
   pub long : (getD a 2 0 + getD a 3 0 ≡ 0 → ⊥) → false ≡ ltb (value a) (2 ^ 64)
   long h = sym (le-ltb (value a) (2 ^ 64) (rw (value-four a l) (two-long _ _ _ (λ e. h (omega arith)))))
 
-  pub short : Fits w32 (getD a 0 0) → Fits w32 (getD a 1 0) → getD a 2 0 ≡ 0 → getD a 3 0 ≡ 0 → true ≡ ltb (value a) (2 ^ 64)
-  short f g p q = sym (lt-ltb (value a) (2 ^ 64) (rw (value-four a l, p, q) (omega arith)))
+  module _ (f : Fits w32 (getD a 0 0)) (g : Fits w32 (getD a 1 0)) where
+    pub short : getD a 2 0 ≡ 0 → getD a 3 0 ≡ 0 → true ≡ ltb (value a) (2 ^ 64)
+    short p q = sym (lt-ltb (value a) (2 ^ 64) (rw (value-four a l, p, q) (omega arith)))
 
-  pub low-two : Fits w32 (getD a 0 0) → Fits w32 (getD a 1 0) → getD a 1 0 * 2 ^ 32 + getD a 0 0 ≡ value a % 2 ^ 64
-  low-two f g = rw (value-four a l) (two-low _ f g)
+    pub low-two : getD a 0 0 + 2 ^ 32 * getD a 1 0 ≡ value a % 2 ^ 64
+    low-two = rw (value-four a l) (two-low _ f g)
 
-  pub high-two : Fits w32 (getD a 0 0) → Fits w32 (getD a 1 0) → getD a 3 0 * 2 ^ 32 + getD a 2 0 ≡ value a / 2 ^ 64
-  high-two f g = rw (value-four a l) (upper (getD a 2 0) (getD a 3 0) ∙ two-high _ f g)
+    pub high-two : getD a 2 0 + 2 ^ 32 * getD a 3 0 ≡ value a / 2 ^ 64
+    high-two = rw (value-four a l) (highest-limb (getD a 2 0) (getD a 3 0) ∙ two-high _ f g)
 
 -- a number and its halves
 pub of-halves : (n : ℕ) → n % 2 ^ 64 + 2 ^ 64 * (n / 2 ^ 64) ≡ n

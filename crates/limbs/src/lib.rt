@@ -16,18 +16,25 @@ pub fn of_u64(v: u64) -> [u32; 4]
     [(v % 0x1_0000_0000) as u32, (v / 0x1_0000_0000) as u32, 0, 0]
 }
 
-// The lower two limbs.
+// Two limbs as one number, x the lower.
+fn pair(x: u32, y: u32) -> u64
+    ensures { λ r. ⌜ r ≡ x + 2 ^ 32 * y ⌝ }
+{
+    y as u64 * 0x1_0000_0000 + x as u64
+}
+
+// The lower half.
 pub fn low(a: [u32; 4]) -> u64
     ensures { λ r. ⌜ r ≡ value a % 2 ^ 64 ⌝ }
 {
-    a[1] as u64 * 0x1_0000_0000 + a[0] as u64
+    pair(a[0], a[1])
 }
 
-// The upper two limbs.
+// The upper half.
 pub fn high(a: [u32; 4]) -> u64
     ensures { λ r. ⌜ r ≡ value a / 2 ^ 64 ⌝ }
 {
-    a[3] as u64 * 0x1_0000_0000 + a[2] as u64
+    pair(a[2], a[3])
 }
 
 // Four limbs of two halves.
@@ -42,7 +49,7 @@ pub fn of_halves(low: u64, high: u64) -> [u32; 4]
     ]
 }
 
-// The lower two limbs are all there is.
+// The lower half is all there is.
 pub fn fits_u64(a: [u32; 4]) -> bool
     ensures { λ r. ⌜ r ≡ ltb (value a) (2 ^ 64) ⌝ }
 {

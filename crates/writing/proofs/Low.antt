@@ -45,7 +45,7 @@ low-mod w n = split w 0 w n (omega arith)
 pub low-split : (w j i n : ℕ) → j + w ≡ i → low i n ≡ low j (n / 10 ^ w) ++ low w n
 low-split w j i n e = split w j i n e ∙ rw (← low-mod w n)
 
-pub low-one : (r : ℕ) → r < 10 → low 1 r ≡ (48 + r) ∷ []
+low-one : (r : ℕ) → r < 10 → low 1 r ≡ (48 + r) ∷ []
 unfolding low
 low-one r h = rw (mod-eq-of-lt h)
 
@@ -86,7 +86,8 @@ below-all k n h e = rw e (rw (decimal-number n h) at (number-lt (decimal n) (dec
 -- ---- digits in a buffer, from the last on
 
 -- the last w digits stand, and the j before them are put
-pub low-put : (w at j i n : ℕ) (b : List ℕ) {c d : List ℕ} → j + w ≡ i → at + i ≤ length b → c ≡ written (at + j) (low w n) b → d ≡ written at (low j (n / 10 ^ w)) c → d ≡ written at (low i n) b
+pub low-put : (w at j i n : ℕ) (b : List ℕ) {c d : List ℕ} → j + w ≡ i → at + i ≤ length b →
+    c ≡ written (at + j) (low w n) b → d ≡ written at (low j (n / 10 ^ w)) c → d ≡ written at (low i n) b
 low-put w at j i n b s l e f =
     f ∙ rw (e, written-before at (at + j) (low j (n / 10 ^ w)) (low w n) b (rw length-low) (omega arith), ← low-split w j i n s)
 
@@ -95,7 +96,8 @@ pub before-below : (w j i n : ℕ) → j + w ≡ i → n < 10 ^ i → n / 10 ^ w
 before-below w j i n s l = div-lt-iff-lt-mul (pow-pos w) .1 (rw (← pow-add, s) l)
 
 -- the first digit
-pub first-put : (at k v : ℕ) (b : List ℕ) {c : List ℕ} {r : ℕ} → 0 < k → v < 10 ^ k → at + k ≤ length b → c ≡ written (at + 1) (low (k - 1) v) b → r ≡ v / 10 ^ (k - 1) → set c at (48 + r) ≡ written at (low k v) b
+pub first-put : (at k v : ℕ) (b : List ℕ) {c : List ℕ} {r : ℕ} → 0 < k → v < 10 ^ k → at + k ≤ length b →
+    c ≡ written (at + 1) (low (k - 1) v) b → r ≡ v / 10 ^ (k - 1) → set c at (48 + r) ≡ written at (low k v) b
 first-put at k v b {c} {r} h l room e f =
     let s : 1 + (k - 1) ≡ k = omega arith in
     let d : r < 10 = rw f (before-below (k - 1) 1 k v s l) in
@@ -105,7 +107,8 @@ first-put at k v b {c} {r} h l room e f =
 -- ---- a loop: what is left to write, written now, gives the buffer f
 
 -- a turn: one digit more is in its place, behind those that are left
-pub turn : (at i n q r : ℕ) (b f : List ℕ) → 0 < i → at + i ≤ length b → q ≡ n / 10 → r ≡ n % 10 → written at (low i n) b ≡ f → written at (low (i - 1) q) (set b (at + (i - 1)) (48 + r)) ≡ f
+pub turn : (at i n q r : ℕ) (b f : List ℕ) → 0 < i → at + i ≤ length b → q ≡ n / 10 → r ≡ n % 10 →
+    written at (low i n) b ≡ f → written at (low (i - 1) q) (set b (at + (i - 1)) (48 + r)) ≡ f
 turn at i n q r b f h l e g k =
     let o : (48 + r) ∷ [] ≡ low 1 n = sym (rw (low-mod 1 n, ← g) (low-one r (omega arith))) in
     low-put 1 at (i - 1) i n b (omega arith) l (written-one (at + (i - 1)) (48 + r) b (omega arith) ∙ rw o) (rw e) ∙ k
@@ -117,7 +120,8 @@ tenth {i} n h =
     div-div-eq-div-mul n 10 (10 ^ (i - 1)) ∙ rw (← pow-succ' 10 (i - 1), e)
 
 -- nothing is left to write
-pub done : (at i k n v : ℕ) (b b₀ : List ℕ) → i ≡ 0 → n / 10 ^ i ≡ v / 10 ^ k → written at (low i n) b ≡ written at (low k v) b₀ → (n ≡ v / 10 ^ k) × (b ≡ written at (low k v) b₀)
+pub done : (at i k n v : ℕ) (b b₀ : List ℕ) → i ≡ 0 → n / 10 ^ i ≡ v / 10 ^ k →
+    written at (low i n) b ≡ written at (low k v) b₀ → (n ≡ v / 10 ^ k) × (b ≡ written at (low k v) b₀)
 unfolding low
 done at i k n v b b₀ z q w =
     let e = rw (z, pow-zero, div-one) at q in

@@ -34,14 +34,16 @@ pub whole-chunks : (a₀ a₁ a₂ a₃ n₀ n₁ n₂ q₀ q₁ q₂ : ℕ) →
     n₀ + 10 ^ 9 * (n₁ + 10 ^ 9 * (n₂ + 10 ^ 9 * (q₂ + a₃ * 79))) ≡ value (a₀ ∷ a₁ ∷ a₂ ∷ a₃ ∷ [])
 whole-chunks a₀ a₁ a₂ a₃ n₀ n₁ n₂ q₀ q₁ q₂ e f g = omega arith
 
-pub chunks-of : (a : List ℕ) → length a ≡ 4 → {n₀ n₁ n₂ n₃ : ℕ} → Chunks (value (getD a 0 0 ∷ getD a 1 0 ∷ getD a 2 0 ∷ getD a 3 0 ∷ [])) n₀ n₁ n₂ n₃ → Chunks (value a) n₀ n₁ n₂ n₃
+pub chunks-of : (a : List ℕ) → length a ≡ 4 → {n₀ n₁ n₂ n₃ : ℕ} →
+    Chunks (value (getD a 0 0 ∷ getD a 1 0 ∷ getD a 2 0 ∷ getD a 3 0 ∷ [])) n₀ n₁ n₂ n₃ → Chunks (value a) n₀ n₁ n₂ n₃
 chunks-of a l h = rw (value-four a l) h
 
 module _ {n n₀ n₁ n₂ n₃ : ℕ} (all : Chunks n n₀ n₁ n₂ n₃) where
   pub chunks-below : {m : ℕ} → n < m → n₀ + 10 ^ 9 * (n₁ + 10 ^ 9 * (n₂ + 10 ^ 9 * n₃)) < m
   chunks-below h = rw (all .whole) h
 
-  pub chunks-put : (at k : ℕ) (b : List ℕ) {d : List ℕ} → d ≡ written at (low k (n₀ + 10 ^ 9 * (n₁ + 10 ^ 9 * (n₂ + 10 ^ 9 * n₃)))) b → d ≡ written at (low k n) b
+  pub chunks-put : (at k : ℕ) (b : List ℕ) {d : List ℕ} →
+      d ≡ written at (low k (n₀ + 10 ^ 9 * (n₁ + 10 ^ 9 * (n₂ + 10 ^ 9 * n₃)))) b → d ≡ written at (low k n) b
   chunks-put at k b e = e ∙ rw (all .whole)
 
 -- their sums fit: p and q are what is carried, and a, b, c are limbs
@@ -97,7 +99,8 @@ module _ (at k r : ℕ) (b : List ℕ) {c : List ℕ} (many : 9 < k) (room : at 
       (f ∙ ap (λ (m : ℕ). written at (low (k - 9) m) c) (before-nine r q n))
 
   -- at most nine are left, and so all are in one chunk
-  pub chunk-few : (n q : ℕ) {d : List ℕ} → k ≤ 18 → r < 10 ^ 9 → n + 10 ^ 9 * q < 10 ^ (k - 9) → d ≡ written at (low (k - 9) n) c → d ≡ written at (low k (r + 10 ^ 9 * (n + 10 ^ 9 * q))) b
+  pub chunk-few : (n q : ℕ) {d : List ℕ} → k ≤ 18 → r < 10 ^ 9 → n + 10 ^ 9 * q < 10 ^ (k - 9) →
+      d ≡ written at (low (k - 9) n) c → d ≡ written at (low k (r + 10 ^ 9 * (n + 10 ^ 9 * q))) b
   chunk-few n q h l m f =
       let e : n ≡ n + 10 ^ 9 * q = omega (arith, pow-le {i = k - 9} {j = 9} (omega arith)) in
       chunk-put (n + 10 ^ 9 * q) l (f ∙ ap (λ (i : ℕ). written at (low (k - 9) i) c) e)

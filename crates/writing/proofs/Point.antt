@@ -81,12 +81,15 @@ front-in at m v b h e =
 pub front-long : (at m v : ℕ) (b : List ℕ) {d : List ℕ} → at + m < length b → d ≡ written at (low m v ++ 46 ∷ []) b → length d ≡ length b
 front-long at m v b h e = ap length e ∙ length-written at (low m v ++ 46 ∷ []) b (simp (length-append, length-low) (omega arith))
 
-pub around : (at k m v : ℕ) (b : List ℕ) {c d : List ℕ} → m ≤ k → at + k < length b → c ≡ written (at + m + 1) (low (k - m) v) b → d ≡ written at (low m (v / 10 ^ (k - m)) ++ 46 ∷ []) c → d ≡ written at (take m (low k v) ++ 46 ∷ drop m (low k v)) b
+pub around : (at k m v : ℕ) (b : List ℕ) {c d : List ℕ} → m ≤ k → at + k < length b →
+    c ≡ written (at + m + 1) (low (k - m) v) b → d ≡ written at (low m (v / 10 ^ (k - m)) ++ 46 ∷ []) c →
+    d ≡ written at (take m (low k v) ++ 46 ∷ drop m (low k v)) b
 around at k m v b h l e f =
     let w = k - m in
     let q = v / 10 ^ w in
     let s : low k v ≡ low m q ++ low w v = low-split w m k v (omega arith) in
     let n : length (low m q ++ 46 ∷ []) ≡ m + 1 = length-append (low m q) (46 ∷ []) ∙ rw length-low in
-    f
-    ∙ rw (e, written-before at (at + m + 1) (low m q ++ 46 ∷ []) (low w v) b (rw n (omega arith)) (omega arith), s, take-at (low m q) (low w v) m (length-low m q), drop-at (low m q) (low w v) m (length-low m q))
-    (simp append-assoc)
+    let p = take-at (low m q) (low w v) m (length-low m q) in
+    let r = drop-at (low m q) (low w v) m (length-low m q) in
+    let t = written-before at (at + m + 1) (low m q ++ 46 ∷ []) (low w v) b (rw n (omega arith)) (omega arith) in
+    f ∙ rw (e, t, s, p, r) (simp append-assoc)

@@ -23,8 +23,9 @@ raised-halves-requires c κs =
 returns-3 : tie.Need-returns-3
 returns-3 c =
     let s = c .before .before in
-    lower-turned _ _ _ _ (le-of-lt (s .before .before .before .before .before .before .if2 .taken)) (c .turned .ensures)
-    (raised-whole _ _ _ (s .before .before .before .low .ensures) (s .before .before .high .ensures) (s .before .low2 .ensures) (s .high2 .ensures) (c .before .raised-halves .ensures))
+    let h = s .before .before in
+    lower-turned _ _ _ _ (le-of-lt (h .before .before .before .before .if2 .taken)) (c .turned .ensures)
+    (raised-whole _ _ _ (h .before .low .ensures) (h .high .ensures) (s .before .low2 .ensures) (s .high2 .ensures) (c .before .raised-halves .ensures))
 
 short-requires-2 : tie.Need-short-requires-2
 short-requires-2 c κs = c .before .is-short2 .ensures (c .if4 .taken)
@@ -40,8 +41,9 @@ raised-halves-requires-2 c κs =
 returns-5 : tie.Need-returns-5
 returns-5 c =
     let s = c .before in
-    raised-whole _ _ _ (s .before .before .before .low3 .ensures) (s .before .before .high3 .ensures) (s .before .low4 .ensures) (s .high4 .ensures) (c .raised-halves2 .ensures)
-    ∙ higher _ _ _ _ (s .before .before .before .before .before .before .if2 .left)
+    let h = s .before .before in
+    raised-whole _ _ _ (h .before .low3 .ensures) (h .high3 .ensures) (s .before .low4 .ensures) (s .high4 .ensures) (c .raised-halves2 .ensures)
+    ∙ higher _ _ _ _ (h .before .before .before .before .if2 .left)
 
 pub magnitudes-spec : {M : Type 1} → statement M
 magnitudes-spec =

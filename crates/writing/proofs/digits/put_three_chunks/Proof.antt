@@ -24,7 +24,9 @@ returns : tie.Need-returns
 returns c =
     let x = c .before .before .before .before .before .before .before in
     let s = x .before .before .before in
-    chunk-few _ _ _ _ (s .pre .0) (s .pre .1) (x .put-few .ensures) _ _ (c .before .before .before .before .if1 .taken) (s .pre .2) (left s) (c .before .before .put-few2 .ensures)
+    chunk-few _ _ _ _ (s .pre .0) (s .pre .1) (x .put-few .ensures) _ _ (c .before .before .before .before .if1 .taken) (s .pre .2)
+    (left s)
+    (c .before .before .put-few2 .ensures)
 
 returns-2 : tie.Need-returns-2
 returns-2 c =

@@ -13,7 +13,10 @@ returns : tie.Need-returns
 returns c =
     let t = c .before .before .before .before .before .before in
     let s = t .before .before .before in
-    follow (s .args .at) (s .args .at + 2) (69 ∷ s .args .mark ∷ []) (decimal (s .args .v)) _ (t .put-two .ensures) (c .before .before .put-low .ensures .1 ∙ rw (low-all _ _ (s .pre .0))) refl (omega (arith, s .pre))
+    follow (s .args .at) (s .args .at + 2) (69 ∷ s .args .mark ∷ []) (decimal (s .args .v)) _ (t .put-two .ensures)
+    (c .before .before .put-low .ensures .1 ∙ rw (low-all _ _ (s .pre .0)))
+    refl
+    (omega (arith, s .pre))
 
 pub put-marked-spec : {M : Type 1} → statement M
 put-marked-spec =
