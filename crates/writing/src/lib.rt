@@ -7,7 +7,6 @@ ghost use Rattle.limbs.specs.Value.{value};
 ghost use Rattle.layout.specs.Unpacked.{meant, TrueCount};
 ghost use Rattle.meaning.specs.Decimal.{InRange};
 ghost use Rattle.meaning.specs.Writing.{decimal, plain, magnitude, signed, writeText, debugText};
-ghost use Rattle.meaning.specs.Reading.{bytes};
 ghost use Rattle.writing.specs.Pieces.{Sized};
 ghost use Rattle.writing.specs.Put.{putOf, placed, Puts};
 
@@ -32,20 +31,6 @@ fn text(buf: &mut [u8], s: &[u8]) -> Put
         return Put::NoRoom;
     }
     pieces::put_all(buf, 0, s);
-    Put::Done(n)
-}
-
-// `Infinity`, with its sign.
-fn infinity(buf: &mut [u8], negative: bool) -> Put
-    ensures { λ r. ⌜ Puts (signed negative (bytes "Infinity")) (now (buf .entry)) r (now (buf .exit)) ⌝ }
-{
-    let at = pieces::sign_len(negative);
-    let n = at + 8;
-    if buf.len() < n {
-        return Put::NoRoom;
-    }
-    pieces::put_sign(buf, negative);
-    pieces::put_all(buf, at, b"Infinity");
     Put::Done(n)
 }
 
@@ -85,7 +70,7 @@ pub fn write(u: Unpacked, buf: &mut [u8]) -> Put
     let kind = f.kind;
     match kind {
         Kind::Nan { signalling: _ } => text(buf, b"NaN"),
-        Kind::Infinity => infinity(buf, f.negative),
+        Kind::Infinity => shapes::infinity(buf, f.negative),
         Kind::Finite => {
             let c = f.coefficient;
             finite(buf, f.negative, f.exponent, c, u.digits)

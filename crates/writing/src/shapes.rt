@@ -1,4 +1,4 @@
-// The shapes of a finite text. Each knows its length first, and writes nothing where there is no room.
+// The shapes of a text with a sign. Each knows its length first, and writes nothing where there is no room.
 use crate::Put;
 use crate::digits;
 use crate::exponent;
@@ -8,10 +8,25 @@ ghost use mathlib.Core.List.{_∷_, _++_};
 ghost use Prim.Native.Nat.{_+_, _-_, _<_, _≤_};
 ghost use lib.ListN.{length, replicate};
 ghost use Rattle.limbs.specs.Value.{value};
+ghost use Rattle.meaning.specs.Reading.{bytes};
 ghost use Rattle.meaning.specs.Writing.{decimal, signed};
 ghost use Rattle.writing.specs.Pieces.{Sized, pointAt, head, headLength, tail};
 ghost use Rattle.writing.specs.Put.{Puts};
 ghost use Rattle.writing.specs.Written.{written};
+
+// `Infinity`.
+pub fn infinity(buf: &mut [u8], negative: bool) -> Put
+    ensures { λ r. ⌜ Puts (signed negative (bytes "Infinity")) (now (buf .entry)) r (now (buf .exit)) ⌝ }
+{
+    let at = pieces::sign_len(negative);
+    let n = at + 8;
+    if buf.len() < n {
+        return Put::NoRoom;
+    }
+    pieces::put_sign(buf, negative);
+    pieces::put_all(buf, at, b"Infinity");
+    Put::Done(n)
+}
 
 // A whole number: 1234E0 -> 1234
 pub fn whole(buf: &mut [u8], negative: bool, c: [u32; 4], k: usize) -> Put

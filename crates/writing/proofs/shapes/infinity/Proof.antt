@@ -2,8 +2,8 @@ use mathlib.Core.Path.{refl}
 use borrow.Author.Needs.{needs}
 use Rattle.meaning.specs.Reading.{bytes}
 use Rattle.writing.proofs.Puts.{signed-no-room, signed-room}
-use Rattle.writing.proofs.infinity.Statement.{statement}
-use Rattle.writing.proofs.infinity.Tie as tie
+use Rattle.writing.proofs.shapes.infinity.Statement.{statement}
+use Rattle.writing.proofs.shapes.infinity.Tie as tie
 
 returns : tie.Need-returns
 returns c =
