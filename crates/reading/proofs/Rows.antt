@@ -1,10 +1,10 @@
--- A row of digits: one law for any count of them, and the eight that are read at once.
+-- A row of digits: four and eight of them, which are read at once, and one law for any count.
 use mathlib.Core.Path.{_≡_, refl, sym, ap, _∙_}
 use mathlib.Core.Logic.{_⊎_}
 use mathlib.Core.Bool.{Bool, true, _&&_, and-assoc, and-true}
 use mathlib.Core.List.{List, [], _∷_, _++_}
 use Prim.Native.Nat.{ℕ, zero, suc, _+_, _-_, _*_, _^_, _≤_, _<_}
-use native.Mathlib.Nat.{lt-of-lt-of-le, sub-self, pow-zero, pow-suc}
+use native.Mathlib.Nat.{add-assoc, lt-of-lt-of-le, sub-self, pow-zero, pow-suc}
 use native.Mathlib.Omega.{arith}
 use lib.Arith.{digits-lt}
 use lib.Pow.{pow-add}
@@ -21,45 +21,83 @@ use Rattle.reading.proofs.Bytes.{slice-step, slice-more, slice-parts}
 use Rattle.reading.proofs.Pass.{passing-digit}
 use Rattle.reading.proofs.Walk.{run-apart, run-across}
 
--- ---- eight bytes
+-- ---- four bytes
 
-byte-step : (s : List ℕ) (t i j : ℕ) → i + 1 ≡ j → j ≤ t → t ≤ length s → slice i t s ≡ getD s i 0 ∷ slice j t s
-byte-step s t i j e h l = rw (← e) (slice-step i t s (omega arith) l)
+abbrev Digit : ℕ → Type 0
+Digit b = (48 ≤ b) × (b ≤ 57)
 
-eight-bytes : (s : List ℕ) (i : ℕ) → i + 8 ≤ length s → slice i (i + 8) s ≡ getD s i 0 ∷ getD s (i + 1) 0 ∷ getD s (i + 2) 0 ∷ getD s (i + 3) 0 ∷ getD s (i + 4) 0 ∷ getD s (i + 5) 0 ∷ getD s (i + 6) 0 ∷ getD s (i + 7) 0 ∷ []
-eight-bytes s i h =
-    let step : (k m : ℕ) → k + 1 ≡ m → m ≤ 8 → slice (i + k) (i + 8) s ≡ getD s (i + k) 0 ∷ slice (i + m) (i + 8) s =
-    (λ k m e l. byte-step s (i + 8) (i + k) (i + m) (omega arith) (omega arith) h) in
-    rw (byte-step s (i + 8) i (i + 1) refl (omega arith) h, step 1 2 refl (omega arith), step 2 3 refl (omega arith), step 3 4 refl (omega arith), step 4 5 refl (omega arith), step 5 6 refl (omega arith), step 6 7 refl (omega arith), step 7 8 refl (omega arith), slice-empty (i + 8) s)
+abbrev pub FourDigits : List ℕ → ℕ → Type 0
+FourDigits s i = Digit (getD s i 0) × Digit (getD s (i + 1) 0) × Digit (getD s (i + 2) 0) × Digit (getD s (i + 3) 0)
 
--- the digits of four bytes, one by one
-pub four-digits : (a b c d : ℕ) → allDigits (a ∷ b ∷ c ∷ d ∷ []) ≡ true → ((48 ≤ a) × (a ≤ 57)) × ((48 ≤ b) × (b ≤ 57)) × ((48 ≤ c) × (c ≤ 57)) × ((48 ≤ d) × (d ≤ 57))
+module _ (s : List ℕ) (i : ℕ) (h : i + 4 ≤ length s) where
+  abbrev byte : ℕ → ℕ
+  byte k = getD s k 0
+
+  step : (k : ℕ) → k < 4 → slice (i + k) (i + 4) s ≡ byte (i + k) ∷ slice (i + (k + 1)) (i + 4) s
+  step k l = rw (← add-assoc i k 1) (slice-step (i + k) (i + 4) s (omega arith) h)
+
+  four-bytes : slice i (i + 4) s ≡ byte i ∷ byte (i + 1) ∷ byte (i + 2) ∷ byte (i + 3) ∷ []
+  four-bytes =
+      rw (slice-step i (i + 4) s (omega arith) h, step 1 (lit≤ tt), step 2 (lit≤ tt), step 3 (lit≤ tt), slice-empty (i + 4) s)
+
+  four-length : length (slice i (i + 4) s) ≡ 4
+  four-length = rw four-bytes
+
+  abbrev test : ℕ → Bool
+  test k = isDigit (byte k)
+
+  -- their tests are one test of all
+  pub four-test : (((test i && test (i + 1)) && test (i + 2)) && test (i + 3)) ≡ allDigits (slice i (i + 4) s)
+  unfolding allDigits
+  four-test = rw four-bytes (simp (and-assoc, and-true))
+
+  module _ (d : allDigits (slice i (i + 4) s) ≡ true) where
+    pub four-each : FourDigits s i
+    unfolding allDigits
+    four-each =
+        let p = both (test i) _ (rw four-bytes at d) in
+        let q = both (test (i + 1)) _ (p .1) in
+        let r = both (test (i + 2)) _ (q .1) in
+        let u = both (test (i + 3)) _ (r .1) in
+        (byte-digit _ (p .0), byte-digit _ (q .0), byte-digit _ (r .0), byte-digit _ (u .0))
+
+    -- 53328 is 48 * 1111: their zeros together
+    pub four-number : byte i * 1000 + byte (i + 1) * 100 + byte (i + 2) * 10 + byte (i + 3) - 53328 ≡ number 0 (slice i (i + 4) s)
+    unfolding number
+    four-number = rw four-bytes (omega (arith, four-each))
+
+    four-below : number 0 (slice i (i + 4) s) < 10000
+    four-below = rw four-length at (number-lt (slice i (i + 4) s) d)
+
+-- ---- eight bytes: four, and four more
+
+digits-both : (a b : List ℕ) → (allDigits a && allDigits b) ≡ allDigits (a ++ b)
 unfolding allDigits
-four-digits a b c d e =
-    let p = both (isDigit a) _ e in
-    let q = both (isDigit b) _ (p .1) in
-    let r = both (isDigit c) _ (q .1) in
-    let u = both (isDigit d) _ (r .1) in (byte-digit a (p .0), byte-digit b (q .0), byte-digit c (r .0), byte-digit d (u .0))
+digits-both [] b = refl
+digits-both (x ∷ a) b = rw (and-assoc, digits-both a b)
 
--- and their number: the zeros of four digits together are 48 * 1111
-pub four-number : (a b c d : ℕ) → allDigits (a ∷ b ∷ c ∷ d ∷ []) ≡ true → (a * 1000 + b * 100 + c * 10 + d - 53328 ≡ number 0 (a ∷ b ∷ c ∷ d ∷ [])) × (a * 1000 + b * 100 + c * 10 + d - 53328 < 10000)
-unfolding number
-four-number a b c d e = let h = four-digits a b c d e in (omega arith, omega arith)
+module _ (s : List ℕ) (i : ℕ) (h : i + 8 ≤ length s) where
+  abbrev high : List ℕ
+  high = slice i (i + 4) s
 
-pub eight-parts : (s : List ℕ) (i : ℕ) → i + 8 ≤ length s → allDigits (slice i (i + 8) s) ≡ true → (allDigits (getD s i 0 ∷ getD s (i + 1) 0 ∷ getD s (i + 2) 0 ∷ getD s (i + 3) 0 ∷ []) ≡ true) × (allDigits (getD s (i + 4) 0 ∷ getD s (i + 5) 0 ∷ getD s (i + 6) 0 ∷ getD s (i + 7) 0 ∷ []) ≡ true)
-eight-parts s i h e = digits-parts (getD s i 0 ∷ getD s (i + 1) 0 ∷ getD s (i + 2) 0 ∷ getD s (i + 3) 0 ∷ []) (getD s (i + 4) 0 ∷ getD s (i + 5) 0 ∷ getD s (i + 6) 0 ∷ getD s (i + 7) 0 ∷ []) (rw (eight-bytes s i h) at e)
+  abbrev low : List ℕ
+  low = slice (i + 4) (i + 4 + 4) s
 
--- the number of eight digits is that of four and of four more
-pub eight-number : (s : List ℕ) (i : ℕ) → i + 8 ≤ length s → number 0 (getD s i 0 ∷ getD s (i + 1) 0 ∷ getD s (i + 2) 0 ∷ getD s (i + 3) 0 ∷ []) * 10000 + number 0 (getD s (i + 4) 0 ∷ getD s (i + 5) 0 ∷ getD s (i + 6) 0 ∷ getD s (i + 7) 0 ∷ []) ≡ number 0 (slice i (i + 8) s)
-eight-number s i h = sym (ap (number 0) (eight-bytes s i h) ∙ number-split (getD s i 0 ∷ getD s (i + 1) 0 ∷ getD s (i + 2) 0 ∷ getD s (i + 3) 0 ∷ []) (getD s (i + 4) 0 ∷ getD s (i + 5) 0 ∷ getD s (i + 6) 0 ∷ getD s (i + 7) 0 ∷ []))
+  eight-bytes : slice i (i + 8) s ≡ high ++ low
+  eight-bytes = rw (add-assoc i 4 4) (slice-parts i (i + 4) (i + 8) s (omega arith) (omega arith) h)
 
-all-tests : (a b c d e f g h : Bool) → (((((((a && b) && c) && d) && e) && f) && g) && h) ≡ (a && (b && (c && (d && (e && (f && (g && (h && true))))))))
-all-tests a b c d e f g h = simp (and-assoc, and-true)
+  pub eight-test : (allDigits high && allDigits low) ≡ allDigits (slice i (i + 8) s)
+  eight-test = rw eight-bytes (digits-both high low)
 
--- the tests of eight bytes are one test of all
-pub eight-tests : (s : List ℕ) (i : ℕ) → i + 8 ≤ length s → (((((((isDigit (getD s i 0) && isDigit (getD s (i + 1) 0)) && isDigit (getD s (i + 2) 0)) && isDigit (getD s (i + 3) 0)) && isDigit (getD s (i + 4) 0)) && isDigit (getD s (i + 5) 0)) && isDigit (getD s (i + 6) 0)) && isDigit (getD s (i + 7) 0)) ≡ allDigits (slice i (i + 8) s)
-unfolding allDigits
-eight-tests s i h = rw (eight-bytes s i h) (all-tests (isDigit (getD s i 0)) (isDigit (getD s (i + 1) 0)) (isDigit (getD s (i + 2) 0)) (isDigit (getD s (i + 3) 0)) (isDigit (getD s (i + 4) 0)) (isDigit (getD s (i + 5) 0)) (isDigit (getD s (i + 6) 0)) (isDigit (getD s (i + 7) 0)))
+  pub eight-number : number 0 high * 10000 + number 0 low ≡ number 0 (slice i (i + 8) s)
+  eight-number = rw (eight-bytes, number-split, four-length s (i + 4) (omega arith))
+
+  module _ (d : allDigits (slice i (i + 8) s) ≡ true) where
+    pub eight-parts : (allDigits high ≡ true) × (allDigits low ≡ true)
+    eight-parts = digits-parts high low (rw eight-bytes at d)
+
+    pub eight-below : (number 0 high < 10000) × (number 0 low < 10000)
+    eight-below = (four-below s i (omega arith) (eight-parts .0), four-below s (i + 4) (omega arith) (eight-parts .1))
 
 -- ---- digits passed
 
@@ -187,7 +225,7 @@ few-none s f t h =
     record { after = omega arith; within = h; power = rw (sub-self, pow-zero); same = rw (slice-empty f s); small = omega arith }
 
 module _ (s : List ℕ) (f t i v by c : ℕ) (r : Row s f t c) (a : FewAt s f t i v by) (h : i < t) where
-  pub few-byte : (48 ≤ getD s i 0) × (getD s i 0 ≤ 57)
+  pub few-byte : Digit (getD s i 0)
   unfolding allDigits
   few-byte =
       let q = rw (slice-parts f i t s (a .after) (omega arith) (r .within)) at (r .digits) in

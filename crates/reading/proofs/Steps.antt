@@ -23,13 +23,13 @@ low-origin : low + 6176 ≡ origin
 unfolding low origin
 low-origin = refl
 
-pub range : high ≡ low + 12287
+range : high ≡ low + 12287
 unfolding low high
 range = refl
 
--- the field of -f
-pub field-of : (f : ℕ) → f ≤ 6176 → (low ≤ origin - f) × (origin - f ≤ high) × (6176 - f ≡ origin - f - low)
-field-of f h = let e = low-origin in let r = range in (omega arith, omega arith, omega arith)
+-- the field k of -f
+pub field-of : (f k : ℕ) → k + f ≡ 6176 → (low ≤ origin - f) × (origin - f ≤ high) × (k ≡ origin - f - low)
+field-of f k h = let e = low-origin in let r = range in (omega arith, omega arith, omega arith)
 
 -- ---- step 11
 

@@ -83,7 +83,7 @@ pub record Added (s : List ℕ) (start i : ℕ) (m : Found) : Type 0 where
 abbrev pub Stopped : List ℕ → ℕ → Type 0
 Stopped s i = (length s ≤ i) ⊎ (isPlain (getD s i 0) ≡ false)
 
--- ---- the whole pass; the digits of a text of at most 19 bytes are added up
+-- ---- the whole pass; of a text with more than 19 bytes from start on nothing is said about the value
 pub record Scanned (s : List ℕ) (start : ℕ) (d : Spans) : Type 0 where
   pub stop : d .stop ≡ start + length (decimals (drop start s))
   pub points : d .found .points ≡ points (decimals (drop start s))

@@ -70,7 +70,7 @@ fn start_of(first: u8) -> usize
     0
 }
 
-// The text is all decimal part, of at most 19 bytes, with a digit and at most one point.
+// The text is short and all decimal part, with a digit and at most one point.
 fn is_plain(length: usize, start: usize, d: Spans) -> bool
     requires { ⌜ start ≤ d .stop ⌝ }
     ensures { λ r. ⌜ (r ≡ true → Plain length start d) ⌝ }
@@ -80,7 +80,7 @@ fn is_plain(length: usize, start: usize, d: Spans) -> bool
         return false;
     }
     let width = stop - start;
-    if 19 < width {
+    if scan::SHORT < width {
         return false;
     }
     if width <= d.found.points {
@@ -92,14 +92,17 @@ fn is_plain(length: usize, start: usize, d: Spans) -> bool
     true
 }
 
+// The field of exponent 0.
+const FIELD_OF_0: u32 = 6176;
+
 // Its value: the number of its digits, and the field of -F.
 fn plain(s: &[u8], start: usize, d: Spans, negative: bool) -> Answer
     requires { ⌜ Scanned (now s) start d × (start ≤ length (now s)) × Plain (length (now s)) start d ⌝ }
     ensures { λ r. ⌜ Gives (step7 (now (s .entry)) negative (origin - (d .stop - (d .found .point + 1))) (stripZeros (run (d .found .point) start (d .stop) (now (s .entry))))) r ⌝ }
 {
-    let f = fraction(d.found.point, d.stop);
+    let field = FIELD_OF_0 - fraction(d.found.point, d.stop) as u32;
     let c = limbs::of_u64(d.found.value);
-    answer::finite(negative, 6176 - f as u32, c, round::digits(s, start, d))
+    answer::finite(negative, field, c, round::digits(s, start, d))
 }
 
 // What a text reads as, and where it is refused: steps 1 to 11. A value that is accepted can be packed.

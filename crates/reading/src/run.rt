@@ -1,7 +1,6 @@
 // The run of step 7 walked in place: the bytes of a text from one offset to another, but the one at the first point.
 ghost use mathlib.Core.Path.{_≡_};
 ghost use mathlib.Core.Bool.{true};
-ghost use mathlib.Core.List.{[], _∷_};
 ghost use Prim.Native.Nat.{_+_, _-_, _^_, _<_, _≤_};
 ghost use lib.ListN.{length};
 ghost use lib.Seq.{slice};
@@ -55,12 +54,15 @@ pub fn after(from: usize, n: usize, point: usize) -> usize
     at + 1
 }
 
-// The number of four digits. Their zeros together are 48 * 1111.
-fn four(a: u8, b: u8, c: u8, d: u8) -> u32
-    requires { ⌜ allDigits (a ∷ b ∷ c ∷ d ∷ []) ≡ true ⌝ }
-    ensures { λ r. ⌜ (r ≡ number 0 (a ∷ b ∷ c ∷ d ∷ [])) × (r < 10000) ⌝ }
+// What four bytes `0` add up to.
+const FOUR_ZEROS: u32 = 48 * 1111;
+
+// The number of the four digits from i on.
+fn four(s: &[u8], i: usize) -> u32
+    requires { ⌜ (i + 4 ≤ length (now s)) × (allDigits (slice i (i + 4) (now s)) ≡ true) ⌝ }
+    ensures { λ r. ⌜ r ≡ number 0 (slice i (i + 4) (now (s .entry))) ⌝ }
 {
-    a as u32 * 1000 + b as u32 * 100 + c as u32 * 10 + d as u32 - 53328
+    s[i] as u32 * 1000 + s[i + 1] as u32 * 100 + s[i + 2] as u32 * 10 + s[i + 3] as u32 - FOUR_ZEROS
 }
 
 // The number of the eight digits from i on.
@@ -68,9 +70,7 @@ fn eight(s: &[u8], i: usize) -> u32
     requires { ⌜ (i + 8 ≤ length (now s)) × (allDigits (slice i (i + 8) (now s)) ≡ true) ⌝ }
     ensures { λ r. ⌜ r ≡ number 0 (slice i (i + 8) (now (s .entry))) ⌝ }
 {
-    let high = four(s[i], s[i + 1], s[i + 2], s[i + 3]);
-    let low = four(s[i + 4], s[i + 5], s[i + 6], s[i + 7]);
-    high * 10000 + low
+    four(s, i) * 10000 + four(s, i + 4)
 }
 
 // The number of a row of less than eight digits behind c.
@@ -90,7 +90,7 @@ fn push_few(c: [u32; 4], s: &[u8], from: usize, to: usize) -> [u32; 4]
     m.low
 }
 
-// The number of a row of digits behind c.
+// The number of a row of digits behind c, eight at a time: 10^8 makes room for them.
 fn push_row(c: [u32; 4], s: &[u8], from: usize, to: usize) -> [u32; 4]
     requires { ⌜ Row (now s) from to (value c) ⌝ }
     ensures { λ r. ⌜ value r ≡ number (value c) (slice from to (now (s .entry))) ⌝ }
@@ -98,7 +98,7 @@ fn push_row(c: [u32; 4], s: &[u8], from: usize, to: usize) -> [u32; 4]
     let mut acc = c;
     let mut i = from;
     while 8 <= to - i {
-        let m = limbs::multiply(acc, 100000000, eight(s, i));
+        let m = limbs::multiply(acc, 100_000_000, eight(s, i));
         let next = m.low;
         acc = next;
         i += 8;

@@ -1,14 +1,17 @@
-// One pass over the decimal part of a text: where it stops, its points, and the number of its first bytes.
+// One pass over the decimal part of a text: where it stops, its points, and, of a short text, the number of its digits.
 ghost use mathlib.Core.Path.{_≡_};
 ghost use mathlib.Core.Bool.{true, cond};
-ghost use Prim.Native.Nat.{ℕ, _+_, _-_, _*_, _^_, _<_, _≤_, min};
+ghost use Prim.Native.Nat.{_+_, _-_, _*_, _^_, _<_, _≤_, min};
 ghost use lib.ListN.{length};
 ghost use lib.Seq.{slice};
 ghost use Rattle.meaning.specs.Reading.{isDigit, allDigits};
-ghost use Rattle.reading.specs.Scan.{noneFound, withDigit, withPoint, Passing, Added, Stopped, Scanned};
+ghost use Rattle.reading.specs.Scan.{noneFound, withDigit, withPoint, Scanned};
+
+// A text is short that has at most so many bytes after its sign. Its digits fit a u64: 10^19 < 2^64.
+pub const SHORT: usize = 19;
 
 // What the pass has found so far: where the first two points stand, or the length of the text, how many points there
-// are, and the number that the digits write.
+// are, and the number that the digits write. The value means nothing in a text that is not short.
 pub struct Found {
     pub point: usize,
     pub second: usize,
@@ -16,7 +19,7 @@ pub struct Found {
     pub value: u64,
 }
 
-// The same, and where the decimal part stops. The value is that of a text of at most 19 bytes.
+// The same, and where the decimal part stops.
 pub struct Spans {
     pub stop: usize,
     pub found: Found,
@@ -72,19 +75,20 @@ fn with_point(m: Found, i: usize) -> Found
     }
 }
 
+// The four bytes from i on are digits: with `&` and not `&&`, all are compared at once.
+fn four_digits(s: &[u8], i: usize) -> bool
+    requires { ⌜ i + 4 ≤ length (now s) ⌝ }
+    ensures { λ r. ⌜ r ≡ allDigits (slice i (i + 4) (now (s .entry))) ⌝ }
+{
+    is_digit(s[i]) & is_digit(s[i + 1]) & is_digit(s[i + 2]) & is_digit(s[i + 3])
+}
+
 // The eight bytes from i on are digits.
 fn eight_digits(s: &[u8], i: usize) -> bool
     requires { ⌜ i + 8 ≤ length (now s) ⌝ }
     ensures { λ r. ⌜ r ≡ allDigits (slice i (i + 8) (now (s .entry))) ⌝ }
 {
-    is_digit(s[i])
-        & is_digit(s[i + 1])
-        & is_digit(s[i + 2])
-        & is_digit(s[i + 3])
-        & is_digit(s[i + 4])
-        & is_digit(s[i + 5])
-        & is_digit(s[i + 6])
-        & is_digit(s[i + 7])
+    four_digits(s, i) & four_digits(s, i + 4)
 }
 
 // Past digits, eight at a time.
@@ -102,14 +106,13 @@ fn past_eights(s: &[u8], from: usize) -> usize
     i
 }
 
-// The decimal part from `from` on, with what was found before; its digits are not added up.
-fn scan_on(s: &[u8], from: usize, before: Found) -> Spans
-    requires { ⌜ (from ≤ length (now s)) × (before .points ≤ from) ⌝ }
-    ensures { λ r. ⌜ ((start : ℕ) → Passing (now (s .entry)) start from before → Passing (now (s .entry)) start (r .stop) (r .found)) ⌝ }
-    ensures { λ r. ⌜ Stopped (now (s .entry)) (r .stop) × (r .found .value ≡ before .value) × (from ≤ r .stop) ⌝ }
+// The decimal part of a text that is not short. Its digits are not added up.
+fn scan_long(s: &[u8], start: usize) -> Spans
+    requires { ⌜ start + 19 < length (now s) ⌝ }
+    ensures { λ r. ⌜ Scanned (now (s .entry)) start r ⌝ }
 {
-    let mut m = before;
-    let mut i = past_eights(s, from);
+    let mut m = none_found(s.len());
+    let mut i = past_eights(s, start);
     while i < s.len() {
         let b = s[i];
         if is_digit(b) {
@@ -126,15 +129,14 @@ fn scan_on(s: &[u8], from: usize, before: Found) -> Spans
     Spans { stop: i, found: m }
 }
 
-// The decimal part from start on, up to end, which is at most 19 bytes on.
-fn scan_short(s: &[u8], start: usize, end: usize) -> Spans
-    requires { ⌜ (start ≤ end) × (end ≤ length (now s)) × (end ≤ start + 19) ⌝ }
-    ensures { λ r. ⌜ Passing (now (s .entry)) start (r .stop) (r .found) × Added (now (s .entry)) start (r .stop) (r .found) ⌝ }
-    ensures { λ r. ⌜ (r .stop ≤ end) × (r .stop < end → Stopped (now (s .entry)) (r .stop)) ⌝ }
+// The decimal part of a short text. Its digits are added up.
+fn scan_short(s: &[u8], start: usize) -> Spans
+    requires { ⌜ (start ≤ length (now s)) × (length (now s) ≤ start + 19) ⌝ }
+    ensures { λ r. ⌜ Scanned (now (s .entry)) start r ⌝ }
 {
     let mut m = none_found(s.len());
     let mut i = start;
-    while i < end {
+    while i < s.len() {
         let b = s[i];
         if is_digit(b) {
             m = with_digit(m, b);
@@ -156,13 +158,13 @@ pub fn least(a: usize, b: usize) -> usize
     if a < b { a } else { b }
 }
 
-// The decimal part of a text that starts at start. Its digits are added up where it has at most 19 bytes.
+// The decimal part of a text that starts at start.
 pub fn scan(s: &[u8], start: usize) -> Spans
     requires { ⌜ start ≤ length (now s) ⌝ }
     ensures { λ r. ⌜ Scanned (now (s .entry)) start r ⌝ }
 {
-    if 19 < s.len() - start {
-        return scan_on(s, start, none_found(s.len()));
+    if SHORT < s.len() - start {
+        return scan_long(s, start);
     }
-    scan_short(s, start, s.len())
+    scan_short(s, start)
 }

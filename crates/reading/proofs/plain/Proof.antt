@@ -1,11 +1,13 @@
-use mathlib.Core.Path.{ap, _∙_}
-use Prim.Native.Nat.{_+_, _≤_}
+use mathlib.Core.Path.{_≡_, ap, _∙_}
+use mathlib.Core.Bool.{Bool}
+use Prim.Native.Nat.{ℕ, _+_, _-_, _≤_}
 use native.Mathlib.Omega.{arith}
 use lib.ListN.{length}
 use borrow.Author.Needs.{needs}
-use Rattle.meaning.specs.Reading.{number}
-use Rattle.limbs.specs.Value.{value}
-use Rattle.reading.specs.Run.{run}
+use Rattle.meaning.specs.Reading.{acceptedAs, origin, low, number}
+use Rattle.meaning.specs.Decimal.Decimal.{finite}
+use Rattle.reading.specs.declared.answer.Answer.{Answer}
+use Rattle.reading.specs.Told.{Gives}
 use Rattle.reading.proofs.Leading.{strip-counts}
 use Rattle.reading.proofs.Points.{stop-low, fraction-few, short-digits, short-value, short-length}
 use Rattle.reading.proofs.Steps.{field-of, steps-short, number-most}
@@ -17,37 +19,46 @@ few : (c : tie.After-fraction) → c .fraction .result ≤ 19
 few c =
     let a = c .before .before in omega (arith, c .fraction .ensures, fraction-few _ _ _ (a .pre .0) (a .pre .1), a .pre .2 .few)
 
-cast-finite : tie.Need-cast-finite
-cast-finite c = omega (arith, few (c .before))
+cast-field : tie.Need-cast-field
+cast-field c = omega (arith, few c)
 
-sub-finite : tie.Need-sub-finite
-sub-finite c = omega (arith, few (c .before))
+sub-field : tie.Need-sub-field
+sub-field c = omega (arith, few c)
 
 digits-requires : tie.Need-digits-requires
 digits-requires c κs = let a = c .before .before .before in (a .pre .0, a .pre .1)
+
+-- an answer with the field k of -f
+module _ (f k v : ℕ) (n : Bool) (r : Answer) where
+  with-field : Gives (acceptedAs (finite n k v)) r → k + f ≡ 6176 → Gives (acceptedAs (finite n (origin - f - low) v)) r
+  with-field a h = rw (← field-of f k h .2) a
 
 returns : tie.Need-returns
 returns c =
     let b = c .before .before .before in
     let a = b .before .before in
+    let s = a .pre .0 in
     let p = a .pre .2 in
-    let h = stop-low _ _ _ (a .pre .0) (a .pre .1) in
-    let d = short-digits _ _ _ (a .pre .0) (a .pre .1) (p .one) (a .args .d .stop) h (omega arith) in
-    let m : length (run (a .args .d .found .point) (a .args .start) (a .args .d .stop) (a .args .s .now)) ≤ 34 = omega (arith, short-length _ _ _ (a .pre .0) (a .pre .1) (p .one), p .few) in
+    let h = stop-low _ _ _ s (a .pre .1) in
+    let d = short-digits _ _ _ s (a .pre .1) (p .one) (a .args .d .stop) h (omega arith) in
+    let k : a .args .d .stop - a .args .start - a .args .d .found .points ≤ 34 = omega (arith, p .few) in
+    let m = rw (← short-length _ _ _ s (a .pre .1) (p .one)) at k in
     let w : length (a .args .s .now) ≤ a .args .start + 19 = omega (arith, p .end, p .few) in
-    let e = c .before .before .of-u64 .ensures ∙ a .pre .0 .value w ∙ ap (number 0) (short-value _ _ _ (a .pre .0) (a .pre .1) (p .one) (a .args .d .stop) h (omega arith)) in
-    let r = field-of (b .fraction .result) (omega (arith, few b)) in
-    rw (← b .fraction .ensures, steps-short _ (a .args .negative) _ (r .0) (r .1) _ d m, ← e, ← r .2)
-    (c .finite .ensures (omega arith) (rw e (number-most _ d m)) (rw (e, c .before .digits .ensures) (strip-counts _ d)))
+    let u = short-value _ _ _ s (a .pre .1) (p .one) (a .args .d .stop) h (omega arith) in
+    let e = c .before .before .of-u64 .ensures ∙ s .value w ∙ ap (number 0) u in
+    let g = c .finite .ensures (omega arith) (rw e (number-most _ d m)) (rw (e, c .before .digits .ensures) (strip-counts _ d)) in
+    let r = field-of (b .fraction .result) (6176 - b .fraction .result) (omega (arith, few b)) in
+    rw (← b .fraction .ensures, steps-short _ (a .args .negative) _ (r .0) (r .1) _ d m, ← e)
+    (with-field _ _ _ _ _ g (omega (arith, few b)))
 
 pub plain-spec : {M : Type 1} → statement M
 plain-spec =
     tie.close
     (tie.spec
     (λ c κs. search needs)
+    cast-field
+    sub-field
     (λ c κs. search needs)
-    cast-finite
-    sub-finite
     digits-requires
     (λ c κs. search needs)
     returns)
