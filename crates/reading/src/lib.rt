@@ -1,9 +1,10 @@
 // Text to value: document 01, 'Reading text', steps 1 to 11.
 ghost use mathlib.Core.Path.{_≡_};
 ghost use mathlib.Core.Bool.{true};
-ghost use Prim.Native.Nat.{_+_, _-_, _≤_};
-ghost use lib.ListN.{length};
-ghost use Rattle.meaning.specs.Reading.{origin, signLength, stripZeros, readAt, step7};
+ghost use mathlib.Core.List.{map};
+ghost use Prim.Native.Nat.{_+_, _-_, _≤_, _<_};
+ghost use lib.ListN.{length, drop};
+ghost use Rattle.meaning.specs.Reading.{origin, lower, signLength, stripZeros, readAt, step2, step7};
 ghost use Rattle.reading.specs.Scan.{Scanned};
 ghost use Rattle.reading.specs.Run.{run, Plain};
 ghost use Rattle.reading.specs.Split.{startOf, Shifted};
@@ -105,16 +106,11 @@ fn plain(s: &[u8], start: usize, d: Spans, negative: bool) -> Answer
     answer::finite(negative, field, c, round::digits(s, start, d))
 }
 
-// What a text reads as, and where it is refused: steps 1 to 11. A value that is accepted can be packed.
-pub fn read(s: &[u8]) -> Answer
-    ensures { λ r. ⌜ Gives (readAt (now (s .entry))) r ⌝ }
+// Steps 2 to 11, of a text that starts at start, after its sign.
+fn after_sign(s: &[u8], start: usize, negative: bool) -> Answer
+    requires { ⌜ (start ≤ length (now s)) × (signLength (now s) ≡ start) × (0 < length (now s)) ⌝ }
+    ensures { λ r. ⌜ Gives (step2 (now (s .entry)) negative (map lower (drop start (now (s .entry))))) r ⌝ }
 {
-    if s.len() == 0 {
-        return answer::refused(UNPARSEABLE, 0);
-    }
-    let first = s[0];
-    let negative = first == b'-';
-    let start = start_of(first);
     let d = scan::scan(s, start);
     if is_plain(s.len(), start, d) {
         return plain(s, start, d, negative);
@@ -127,4 +123,15 @@ pub fn read(s: &[u8]) -> Answer
         return answer::refused(x.number, places::early(s, d.stop, x.number));
     }
     round::finite(s, start, d, negative, x)
+}
+
+// What a text reads as, and where it is refused: steps 1 to 11. A value that is accepted can be packed.
+pub fn read(s: &[u8]) -> Answer
+    ensures { λ r. ⌜ Gives (readAt (now (s .entry))) r ⌝ }
+{
+    if s.len() == 0 {
+        return answer::refused(UNPARSEABLE, 0);
+    }
+    let first = s[0];
+    after_sign(s, start_of(first), first == b'-')
 }
