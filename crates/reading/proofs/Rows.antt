@@ -102,22 +102,24 @@ module _ (s : List ℕ) (i : ℕ) (h : i + 8 ≤ length s) where
 -- ---- digits passed
 
 -- a row of digits is no more than that to the pass
-passing-row : (s : List ℕ) (start n i t : ℕ) (m : Found) → i + n ≡ t → t ≤ length s → allDigits (slice i t s) ≡ true → Passing s start i m → Passing s start t m
-unfolding allDigits
-passing-row s start zero i t m e l d p = let q : i ≡ t = omega arith in rw q at p
-passing-row s start (suc n) i t m e l d p =
-    let h = both (isDigit (getD s i 0)) (allDigits (slice (i + 1) t s)) (rw (slice-step i t s (omega arith) l) at d) in
-    passing-row s start n (i + 1) t m (omega arith) l (h .1) (passing-digit s start i m p (omega arith) (m .value) (h .0))
+module _ (s : List ℕ) (start t : ℕ) (m : Found) (l : t ≤ length s) where
+  passing-row : (n i : ℕ) → i + n ≡ t → allDigits (slice i t s) ≡ true → Passing s start i m → Passing s start t m
+  unfolding allDigits
+  passing-row zero i e d p = let q : i ≡ t = omega arith in rw q at p
+  passing-row (suc n) i e d p =
+      let h = both (isDigit (getD s i 0)) (allDigits (slice (i + 1) t s)) (rw (slice-step i t s (omega arith) l) at d) in
+      passing-row n (i + 1) (omega arith) (h .1) (passing-digit s start i m p (omega arith) (m .value) (h .0))
 
-pub passing-on : (s : List ℕ) (start i t : ℕ) (m : Found) → i ≤ t → t ≤ length s → allDigits (slice i t s) ≡ true → Passing s start i m → Passing s start t m
-passing-on s start i t m h = passing-row s start (t - i) i t m (omega arith)
+  pub passing-on : (i : ℕ) → i ≤ t → allDigits (slice i t s) ≡ true → Passing s start i m → Passing s start t m
+  passing-on i h = passing-row (t - i) i (omega arith)
 
 pub row-none : (s : List ℕ) (i : ℕ) → allDigits (slice i i s) ≡ true
 unfolding allDigits
 row-none s i = rw (slice-empty i s)
 
-pub row-on : (s : List ℕ) (f i t : ℕ) → f ≤ i → i ≤ t → t ≤ length s → allDigits (slice f i s) ≡ true → allDigits (slice i t s) ≡ true → allDigits (slice f t s) ≡ true
-row-on s f i t h k l p q = rw (slice-parts f i t s h k l) (digits-append (slice f i s) (slice i t s) p q)
+module _ (s : List ℕ) (f i t : ℕ) (h : f ≤ i) (k : i ≤ t) (l : t ≤ length s) where
+  pub row-on : allDigits (slice f i s) ≡ true → allDigits (slice i t s) ≡ true → allDigits (slice f t s) ≡ true
+  row-on p q = rw (slice-parts f i t s h k l) (digits-append (slice f i s) (slice i t s) p q)
 
 -- ---- a row behind v
 
@@ -125,85 +127,88 @@ number-room : (v m : ℕ) (a : List ℕ) → allDigits a ≡ true → v < 10 ^ m
 number-room v m a d h = rw (number-shift v a, pow-add) (digits-lt h (number-lt a d))
 
 -- a run is one row, or two rows with the point between them
-module _ (p i t v : ℕ) (s : List ℕ) (k : i ≤ t) (l : t ≤ length s) (d : allDigits (run p i t s) ≡ true) (f : length (run p i t s) ≤ 34) (m : v < 10 ^ (34 - length (run p i t s))) where
-  pub row-whole : (p < i) ⊎ (t ≤ p) → Row s i t v
-  row-whole h =
-      let e = run-apart p i t s h k l in
-      let n : length (slice i t s) ≡ t - i = length-slice i t s l in
-      record { ordered = k; within = l; digits = rw e at d; few = rw (e, n) at f; small = rw (e, n) at m }
+module _ (p i t v : ℕ) (s : List ℕ) (k : (i ≤ t) × (t ≤ length s) × (allDigits (run p i t s) ≡ true)) where
+  module _ (m : (length (run p i t s) ≤ 34) × (v < 10 ^ (34 - length (run p i t s)))) where
+    pub row-whole : (p < i) ⊎ (t ≤ p) → Row s i t v
+    row-whole h =
+        let e = run-apart p i t s h (k .0) (k .1) in
+        let n : length (slice i t s) ≡ t - i = length-slice i t s (k .1) in
+        record { ordered = k .0; within = k .1; digits = rw e at (k .2); few = rw (e, n) at (m .0); small = rw (e, n) at (m .1) }
 
-  module _ (h : i ≤ p) (j : p < t) where
-    across : run p i t s ≡ slice i p s ++ slice (p + 1) t s
-    across = run-across p i t s h j l
+    module _ (h : i ≤ p) (j : p < t) where
+      across : run p i t s ≡ slice i p s ++ slice (p + 1) t s
+      across = run-across p i t s h j (k .1)
 
-    parts : (allDigits (slice i p s) ≡ true) × (allDigits (slice (p + 1) t s) ≡ true)
-    parts = digits-parts (slice i p s) (slice (p + 1) t s) (rw across at d)
+      parts : (allDigits (slice i p s) ≡ true) × (allDigits (slice (p + 1) t s) ≡ true)
+      parts = digits-parts (slice i p s) (slice (p + 1) t s) (rw across at (k .2))
 
-    total : length (run p i t s) ≡ (p - i) + (t - (p + 1))
-    total =
-        rw (across, length-append) (omega (arith, length-slice i p s (omega arith), length-slice (p + 1) t s l))
+      total : length (run p i t s) ≡ (p - i) + (t - (p + 1))
+      total =
+          rw (across, length-append) (omega (arith, length-slice i p s (omega arith), length-slice (p + 1) t s (k .1)))
 
-    pub row-before : Row s i p v
-    row-before =
-        record {
-          ordered = h;
-          within = omega arith;
-          digits = parts .0;
-          few = omega (arith, total);
-          small = lt-of-lt-of-le m (pow-le (omega (arith, total)));
-        }
+      pub row-before : Row s i p v
+      row-before =
+          record {
+            ordered = h;
+            within = omega arith;
+            digits = parts .0;
+            few = omega (arith, total);
+            small = lt-of-lt-of-le (m .1) (pow-le (omega (arith, total)));
+          }
 
-    pub row-behind : Row s (p + 1) t (number v (slice i p s))
-    row-behind =
-        let e : 34 - (t - (p + 1)) ≡ 34 - length (run p i t s) + length (slice i p s) = omega (arith, total, length-slice i p s (omega arith)) in
-        record {
-          ordered = omega arith;
-          within = l;
-          digits = parts .1;
-          few = omega (arith, total);
-          small = rw e (number-room v _ (slice i p s) (parts .0) m);
-        }
+      pub row-behind : Row s (p + 1) t (number v (slice i p s))
+      row-behind =
+          let n = length-slice i p s (omega arith) in
+          let e : 34 - (t - (p + 1)) ≡ 34 - length (run p i t s) + length (slice i p s) = omega (arith, total, n) in
+          record {
+            ordered = omega arith;
+            within = k .1;
+            digits = parts .1;
+            few = omega (arith, total);
+            small = rw e (number-room v _ (slice i p s) (parts .0) (m .1));
+          }
 
-    pub row-both : number (number v (slice i p s)) (slice (p + 1) t s) ≡ number v (run p i t s)
-    row-both = sym (ap (number v) across ∙ number-append v (slice i p s) (slice (p + 1) t s))
+      pub row-both : number (number v (slice i p s)) (slice (p + 1) t s) ≡ number v (run p i t s)
+      row-both = sym (ap (number v) across ∙ number-append v (slice i p s) (slice (p + 1) t s))
 
 -- ---- and its first w digits
 
 module _ (s : List ℕ) (i k t v w : ℕ) (r : Row s i t v) (e : i + w ≡ k) (h : k ≤ t) where
+  abbrev pushed : ℕ
+  pushed = v * 10 ^ w + number 0 (slice i k s)
+
   row-parts : slice i t s ≡ slice i k s ++ slice k t s
   row-parts = slice-parts i k t s (omega arith) h (r .within)
 
   row-length : length (slice i k s) ≡ w
   row-length = omega (arith, length-slice i k s (omega (arith, r .within)))
 
-  pub row-digits : allDigits (slice i k s) ≡ true
-  row-digits = digits-parts (slice i k s) (slice k t s) (rw row-parts at (r .digits)) .0
+  digits : (allDigits (slice i k s) ≡ true) × (allDigits (slice k t s) ≡ true)
+  digits = digits-parts (slice i k s) (slice k t s) (rw row-parts at (r .digits))
 
-  row-next : v * 10 ^ w + number 0 (slice i k s) < 10 ^ (34 - (t - k))
+  pub row-digits : allDigits (slice i k s) ≡ true
+  row-digits = digits .0
+
+  shifted : number v (slice i k s) ≡ pushed
+  shifted = number-shift v (slice i k s) ∙ ap (λ (n : ℕ). v * 10 ^ n + number 0 (slice i k s)) row-length
+
+  row-next : pushed < 10 ^ (34 - (t - k))
   row-next =
       let n : 34 - (t - k) ≡ 34 - (t - i) + length (slice i k s) = omega (arith, r .few, row-length) in
-      rw (← row-length, ← number-shift v (slice i k s), n) (number-room v (34 - (t - i)) (slice i k s) row-digits (r .small))
+      rw (← shifted, n) (number-room v (34 - (t - i)) (slice i k s) row-digits (r .small))
 
-  pub row-fits : v * 10 ^ w + number 0 (slice i k s) < 2 ^ 128
+  row-fits : pushed < 2 ^ 128
   row-fits = lt-of-lt-of-le (lt-of-lt-of-le row-next (pow-le {j = 34} (omega arith))) (lit≤ tt)
 
   -- what is multiplied and added is that number, and nothing is carried out
-  pub row-pushed : (c : ℕ) {p by n : ℕ} → by ≡ 10 ^ w → n ≡ number 0 (slice i k s) → p + 2 ^ 128 * c ≡ v * by + n → p ≡ v * 10 ^ w + number 0 (slice i k s)
-  row-pushed c {p} {by} {n} f g q = none-carried (2 ^ 128) c (q ∙ (rw (f, g) refl)) row-fits
+  pub row-pushed : (c : ℕ) {p by n : ℕ} → by ≡ 10 ^ w → n ≡ number 0 (slice i k s) → p + 2 ^ 128 * c ≡ v * by + n → p ≡ pushed
+  row-pushed c f g q = none-carried (2 ^ 128) c (q ∙ (rw (f, g) refl)) row-fits
 
-  pub row-rest : Row s k t (v * 10 ^ w + number 0 (slice i k s))
-  row-rest =
-      record {
-        ordered = h;
-        within = r .within;
-        digits = digits-parts (slice i k s) (slice k t s) (rw row-parts at (r .digits)) .1;
-        few = omega (arith, r .few);
-        small = row-next;
-      }
+  pub row-rest : Row s k t pushed
+  row-rest = record { ordered = h; within = r .within; digits = digits .1; few = omega (arith, r .few); small = row-next }
 
-  pub row-same : number v (slice i t s) ≡ number (v * 10 ^ w + number 0 (slice i k s)) (slice k t s)
-  row-same =
-      rw (row-parts, number-append) (ap (λ (n : ℕ). number n (slice k t s)) (number-shift v (slice i k s) ∙ ap (λ (n : ℕ). v * 10 ^ n + number 0 (slice i k s)) row-length))
+  pub row-same : number v (slice i t s) ≡ number pushed (slice k t s)
+  row-same = rw (row-parts, number-append, shifted)
 
 row-end : (s : List ℕ) (t v : ℕ) → number v (slice t t s) ≡ v
 unfolding number
@@ -224,34 +229,35 @@ unfolding number
 few-none s f t h =
     record { after = omega arith; within = h; power = rw (sub-self, pow-zero); same = rw (slice-empty f s); small = omega arith }
 
-module _ (s : List ℕ) (f t i v by c : ℕ) (r : Row s f t c) (a : FewAt s f t i v by) (h : i < t) where
-  pub few-byte : Digit (getD s i 0)
-  unfolding allDigits
-  few-byte =
-      let q = rw (slice-parts f i t s (a .after) (omega arith) (r .within)) at (r .digits) in
-      let d = rw (slice-step i t s h (r .within)) at (digits-parts (slice f i s) (slice i t s) q .1) in
-      byte-digit _ (both (isDigit (getD s i 0)) _ d .0)
+module _ (s : List ℕ) (f t i v by c : ℕ) (r : Row s f t c) (a : FewAt s f t i v by) where
+  module _ (h : i < t) where
+    pub few-byte : Digit (getD s i 0)
+    unfolding allDigits
+    few-byte =
+        let q = rw (slice-parts f i t s (a .after) (omega arith) (r .within)) at (r .digits) in
+        let d = rw (slice-step i t s h (r .within)) at (digits-parts (slice f i s) (slice i t s) q .1) in
+        byte-digit _ (both (isDigit (getD s i 0)) _ d .0)
 
-  pub few-room : t < f + 8 → by ≤ 1000000
-  few-room l = rw (a .power) (pow-le {j = 6} (omega (arith, a .after)))
+    pub few-room : t < f + 8 → by ≤ 1000000
+    few-room l = rw (a .power) (pow-le {j = 6} (omega (arith, a .after)))
 
-  pub few-more : FewAt s f t (i + 1) (v * 10 + (getD s i 0 - 48)) (by * 10)
-  unfolding number
-  few-more =
-      let n : i + 1 - f ≡ suc (i - f) = omega (arith, a .after) in
-      record {
-        after = omega (arith, a .after);
-        within = omega arith;
-        power = rw (n, pow-suc, ← a .power) (omega arith);
-        same = rw (slice-more s f i (a .after) (omega (arith, r .within)), number-append, ← a .same);
-        small = omega (arith, a .small, few-byte);
-      }
+    pub few-more : FewAt s f t (i + 1) (v * 10 + (getD s i 0 - 48)) (by * 10)
+    unfolding number
+    few-more =
+        let n : i + 1 - f ≡ suc (i - f) = omega (arith, a .after) in
+        record {
+          after = omega (arith, a .after);
+          within = omega arith;
+          power = rw (n, pow-suc, ← a .power) (omega arith);
+          same = rw (slice-more s f i (a .after) (omega (arith, r .within)), number-append, ← a .same);
+          small = omega (arith, a .small, few-byte);
+        }
 
--- and all of them at once behind c
-pub few-end : (s : List ℕ) (f t i v by c : ℕ) → Row s f t c → FewAt s f t i v by → t ≤ i → (k : ℕ) {p : ℕ} → p + 2 ^ 128 * k ≡ c * by + v → p ≡ number c (slice f t s)
-few-end s f t i v by c r a h k q =
-    let e : i ≡ t = omega (arith, a .within) in
-    let w : f + (t - f) ≡ t = omega (arith, r .ordered) in
-    let l : t ≤ t = omega arith in
-    row-pushed s f t t c (t - f) r w l k (a .power ∙ rw e) (a .same ∙ rw e) q
-    ∙ sym (row-same s f t t c (t - f) r w l ∙ row-end s t _)
+  -- and all of them at once behind c
+  pub few-end : t ≤ i → (k : ℕ) {p : ℕ} → p + 2 ^ 128 * k ≡ c * by + v → p ≡ number c (slice f t s)
+  few-end h k q =
+      let e : i ≡ t = omega (arith, a .within) in
+      let w : f + (t - f) ≡ t = omega (arith, r .ordered) in
+      let l : t ≤ t = omega arith in
+      row-pushed s f t t c (t - f) r w l k (a .power ∙ rw e) (a .same ∙ rw e) q
+      ∙ sym (row-same s f t t c (t - f) r w l ∙ row-end s t _)

@@ -55,7 +55,23 @@ returns : tie.Need-returns Inv-loop μ-loop
 returns c =
     let a = c .before .before .before .before .before in
     let l = c .before .before .before .loop in
-    few-end (a .args .s .now) (a .args .from) (a .args .to) (l .i) (l .v) (l .by) _ (a .pre .0) (l .inv) (c .before .before .loop-test .left) _ (c .before .multiply .ensures)
+    few-end _ _ _ _ _ _ _ (a .pre .0) (l .inv) (c .before .before .loop-test .left) _ (c .before .multiply .ensures)
 
 pub push-few-spec : {M : Type 1} → statement M
-push-few-spec = tie.close (tie.spec Inv-loop μ-loop loop-holds mul-v (λ c. search needs) sub-v cast-v add-v mul-by (λ c. search needs) (λ c. search needs) loop-again (λ c κs. search needs) returns)
+push-few-spec =
+    tie.close
+    (tie.spec
+    Inv-loop
+    μ-loop
+    loop-holds
+    mul-v
+    (λ c. search needs)
+    sub-v
+    cast-v
+    add-v
+    mul-by
+    (λ c. search needs)
+    (λ c. search needs)
+    loop-again
+    (λ c κs. search needs)
+    returns)

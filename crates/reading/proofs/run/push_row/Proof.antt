@@ -31,13 +31,11 @@ eight-requires c κs =
 loop-again : tie.Need-loop-again Inv-loop μ-loop
 loop-again c =
     let a = c .before .before .before .before .before .before in
-    let s = a .args .s .now in
-    let t = a .args .to in
     let l = c .before .before .before .before .loop in
     let r = l .inv .1 in
-    let h : l .i + 8 ≤ t = omega (arith, c .before .before .before .loop-test .taken) in
-    let e = row-pushed s (l .i) (l .i + 8) t (value (l .acc)) 8 r refl h _ refl (c .before .before .eight .ensures) (c .before .multiply .ensures) in
-    (omega arith, rw e (row-rest s (l .i) (l .i + 8) t (value (l .acc)) 8 r refl h), rw e (sym (row-same s (l .i) (l .i + 8) t (value (l .acc)) 8 r refl h) ∙ l .inv .2))
+    let h : l .i + 8 ≤ a .args .to = omega (arith, c .before .before .before .loop-test .taken) in
+    let e = row-pushed _ _ (l .i + 8) _ _ 8 r refl h _ refl (c .before .before .eight .ensures) (c .before .multiply .ensures) in
+    (omega arith, rw e (row-rest _ _ (l .i + 8) _ _ 8 r refl h), rw e (sym (row-same _ _ (l .i + 8) _ _ 8 r refl h) ∙ l .inv .2))
 
 push-few-requires : tie.Need-push-few-requires Inv-loop μ-loop
 push-few-requires c κs = (c .before .loop .inv .1, omega arith)
@@ -46,4 +44,17 @@ returns : tie.Need-returns Inv-loop μ-loop
 returns c = c .push-few .ensures ∙ c .before .before .loop .inv .2
 
 pub push-row-spec : {M : Type 1} → statement M
-push-row-spec = tie.close (tie.spec Inv-loop μ-loop loop-holds sub-loop eight-requires (λ c κs. search needs) (λ c. search needs) (λ c. search needs) loop-again push-few-requires returns)
+push-row-spec =
+    tie.close
+    (tie.spec
+    Inv-loop
+    μ-loop
+    loop-holds
+    sub-loop
+    eight-requires
+    (λ c κs. search needs)
+    (λ c. search needs)
+    (λ c. search needs)
+    loop-again
+    push-few-requires
+    returns)

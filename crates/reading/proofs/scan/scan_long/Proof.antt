@@ -21,7 +21,7 @@ loop-holds : tie.Need-loop-holds Inv-loop μ-loop
 loop-holds c =
     let a = c .before .before .before in
     let p = passing-none (a .args .s .now) (a .args .start) (omega arith) in
-    let r = c .past-eights .ensures in passing-on _ _ _ _ _ (r .0) (r .1) (r .2) (rw (c .before .none-found .ensures) p)
+    let r = c .past-eights .ensures in passing-on _ _ _ _ (r .1) _ (r .0) (r .2) (rw (c .before .none-found .ensures) p)
 
 loop-again : tie.Need-loop-again Inv-loop μ-loop
 loop-again c =
@@ -44,7 +44,7 @@ loop-again-2 c =
     let e = c .before .before in
     let l = e .before .before .before .before .before .loop in
     let p = passing-point _ _ _ _ (l .inv) (e .before .before .before .before .loop-test .taken) (e .if2 .left) in
-    let r = c .past-eights2 .ensures in passing-on _ _ (l .i + 1) _ _ (r .0) (r .1) (r .2) (rw (c .before .with-point .ensures) p)
+    let r = c .past-eights2 .ensures in passing-on _ _ _ _ (r .1) (l .i + 1) (r .0) (r .2) (rw (c .before .with-point .ensures) p)
 
 returns-2 : tie.Need-returns-2 Inv-loop μ-loop
 returns-2 c =
