@@ -161,7 +161,7 @@ e-length s i h =
 
 -- ---- the first point
 
-pub without-past : (p i : ℕ) (l : List ℕ) → p < i → without p i l ≡ l
+without-past : (p i : ℕ) (l : List ℕ) → p < i → without p i l ≡ l
 without-past p i [] h = unfold without in refl
 without-past p i (x ∷ l) h = rw (without-take p i x l (λ e. omega arith), without-past p (i + 1) l (omega arith))
 

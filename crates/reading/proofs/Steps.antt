@@ -27,9 +27,9 @@ range : high ≡ low + 12287
 unfolding low high
 range = refl
 
--- the field k of -f
-pub field-of : (f k : ℕ) → k + f ≡ 6176 → (low ≤ origin - f) × (origin - f ≤ high) × (k ≡ origin - f - low)
-field-of f k h = let e = low-origin in let r = range in (omega arith, omega arith, omega arith)
+-- the field of -f
+pub field-of : (f : ℕ) → f ≤ 6176 → (low ≤ origin - f) × (origin - f ≤ high) × (6176 - f ≡ origin - f - low)
+field-of f h = let e = low-origin in let r = range in (omega arith, omega arith, omega arith)
 
 -- ---- step 11
 

@@ -83,11 +83,12 @@ pub record Added (s : List ℕ) (start i : ℕ) (m : Found) : Type 0 where
 abbrev pub Stopped : List ℕ → ℕ → Type 0
 Stopped s i = (length s ≤ i) ⊎ (isPlain (getD s i 0) ≡ false)
 
--- ---- the whole pass; of a text with more than 19 bytes from start on nothing is said about the value
+-- ---- the whole pass
 pub record Scanned (s : List ℕ) (start : ℕ) (d : Spans) : Type 0 where
   pub stop : d .stop ≡ start + length (decimals (drop start s))
   pub points : d .found .points ≡ points (decimals (drop start s))
   pub point : d .found .point ≡ firstAt 46 (length s) start (decimals (drop start s))
   pub second : d .found .second ≡ secondAt (length s) start (decimals (drop start s))
+  -- only of a short text, with at most 19 bytes from start on: nothing is said about the value of a longer one
   pub value : length s ≤ start + 19 → d .found .value ≡ number 0 (unpointed (slice start (d .stop) s))
   pub ended : Stopped s (d .stop)

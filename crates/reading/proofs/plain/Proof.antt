@@ -1,4 +1,4 @@
-use mathlib.Core.Path.{_≡_, ap, _∙_}
+use mathlib.Core.Path.{_≡_, refl, ap, _∙_}
 use mathlib.Core.Bool.{Bool}
 use Prim.Native.Nat.{ℕ, _+_, _-_, _≤_}
 use native.Mathlib.Omega.{arith}
@@ -30,13 +30,14 @@ digits-requires c κs = let a = c .before .before .before in (a .pre .0, a .pre 
 
 -- an answer with the field k of -f
 module _ (f k v : ℕ) (n : Bool) (r : Answer) where
-  with-field : Gives (acceptedAs (finite n k v)) r → k + f ≡ 6176 → Gives (acceptedAs (finite n (origin - f - low) v)) r
-  with-field a h = rw (← field-of f k h .2) a
+  with-field : f ≤ 6176 → Gives (acceptedAs (finite n k v)) r → k ≡ 6176 - f → Gives (acceptedAs (finite n (origin - f - low) v)) r
+  with-field h a e = rw (← field-of f h .2, ← e) a
 
 returns : tie.Need-returns
 returns c =
     let b = c .before .before .before in
     let a = b .before .before in
+    let f : b .fraction .result ≤ 6176 = omega (arith, few b) in
     let s = a .pre .0 in
     let p = a .pre .2 in
     let h = stop-low _ _ _ s (a .pre .1) in
@@ -47,9 +48,8 @@ returns c =
     let u = short-value _ _ _ s (a .pre .1) (p .one) (a .args .d .stop) h (omega arith) in
     let e = c .before .before .of-u64 .ensures ∙ s .value w ∙ ap (number 0) u in
     let g = c .finite .ensures (omega arith) (rw e (number-most _ d m)) (rw (e, c .before .digits .ensures) (strip-counts _ d)) in
-    let r = field-of (b .fraction .result) (6176 - b .fraction .result) (omega (arith, few b)) in
-    rw (← b .fraction .ensures, steps-short _ (a .args .negative) _ (r .0) (r .1) _ d m, ← e)
-    (with-field _ _ _ _ _ g (omega (arith, few b)))
+    let r = field-of _ f in
+    rw (← b .fraction .ensures, steps-short _ (a .args .negative) _ (r .0) (r .1) _ d m, ← e) (with-field _ _ _ _ _ f g refl)
 
 pub plain-spec : {M : Type 1} → statement M
 plain-spec =
