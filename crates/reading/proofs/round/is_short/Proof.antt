@@ -3,17 +3,13 @@ use borrow.Author.Needs.{needs}
 use Rattle.reading.proofs.round.is_short.Statement.{statement}
 use Rattle.reading.proofs.round.is_short.Tie as tie
 
-returns : tie.Need-returns
-returns c = λ e. absurd (false≢true e)
-
-returns-2 : tie.Need-returns-2
-returns-2 c = λ e. absurd (false≢true e)
-
-returns-3 : tie.Need-returns-3
-returns-3 c = λ e. absurd (false≢true e)
-
-returns-4 : tie.Need-returns-4
-returns-4 c = λ e. absurd (false≢true e)
-
 pub is-short-spec : {M : Type 1} → statement M
-is-short-spec = tie.close (tie.spec returns returns-2 returns-3 (λ c. search needs) returns-4 (λ c. search needs))
+is-short-spec =
+    tie.close
+    (tie.spec
+    (λ c e. absurd (false≢true e))
+    (λ c e. absurd (false≢true e))
+    (λ c e. absurd (false≢true e))
+    (λ c. search needs)
+    (λ c e. absurd (false≢true e))
+    (λ c. search needs))
