@@ -1,4 +1,4 @@
-use mathlib.Core.Path.{sym, _∙_}
+use mathlib.Core.Path.{_≡_, sym, _∙_}
 use mathlib.Core.List.{List}
 use Prim.Native.Nat.{ℕ, _<_}
 use native.Mathlib.Omega.{arith}
@@ -18,7 +18,9 @@ some c = omega (arith, c .before .before .if1 .left)
 
 returns : tie.Need-returns
 unfolding named
-returns c = rw (read-empty _ (c .before .if1 .taken)) (c .refused .ensures)
+returns c =
+    let none : length (c .before .before .before .args .s .now) ≡ 0 = omega (arith, c .before .if1 .taken) in
+    rw (read-empty _ none) (c .refused .ensures)
 
 after-sign-requires : tie.Need-after-sign-requires
 after-sign-requires c κs =
