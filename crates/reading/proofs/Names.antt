@@ -21,7 +21,7 @@ name-of noRoom = refl
 name-of lineTooLong = refl
 name-of notOrdered = refl
 
-number-of : (n : ℕ) → 0 < n → n ≤ 10 → numberOf (named n) ≡ n
+pub number-of : (n : ℕ) → 0 < n → n ≤ 10 → numberOf (named n) ≡ n
 unfolding named numberOf
 number-of zero h l = absurd (omega arith)
 number-of (suc zero) h l = refl

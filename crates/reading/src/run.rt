@@ -54,7 +54,7 @@ pub fn after(from: usize, n: usize, point: usize) -> usize
     at + 1
 }
 
-// What four bytes `0` add up to.
+// What the bytes of `0000` add up to in their places.
 const FOUR_ZEROS: u32 = 48 * 1111;
 
 // The number of the four digits from i on.
