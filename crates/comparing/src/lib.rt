@@ -316,7 +316,7 @@ fn itself(u: Fields) -> Relation
     Relation::Equal
 }
 
-// The relation of two stored values: IEEE 754-2008, 5.11. The same bytes are known first, which costs other finite pairs nothing.
+// The relation of two stored values: IEEE 754-2008, 5.11. The same bytes are told first, which costs other finite pairs nothing.
 // The second's fields are taken where the first is known to be finite or not, so that no kind is kept for later. Counting digits
 // would cost more than the raising that it spares.
 pub fn compare(a: &[u8; 16], b: &[u8; 16]) -> Relation
