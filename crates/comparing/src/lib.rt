@@ -1,4 +1,6 @@
 // The order of two values.
+#![tactic(auto)]
+
 ghost use Rattle.std.specs.Prelude.{◌≡◌, true, false, not, cond, ◌+◌, ◌*◌, ◌^◌, ◌≤◌, ◌<◌, eqb};
 ghost use Rattle.limbs.specs.Value.{value};
 ghost use Rattle.limbs.specs.Order.{order};

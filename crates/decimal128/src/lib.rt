@@ -1,5 +1,7 @@
 // Decimal128: decimal text to 16 stored bytes and back, and how two values stand. The public operations and nothing else; none
 // asks anything of its caller. That of two texts, `larger`, is in a crate of its own.
+#![tactic(auto)]
+
 ghost use Rattle.std.specs.Prelude.{◌≡◌};
 ghost use Rattle.comparing.specs.Told.{told};
 ghost use Rattle.decimal128.specs.Operations.{FromBytesAllows, BytesAllows, ParseAllows, ReadAllows, WriteAllows, DebugAllows, RecordAllows, CompareAllows, compared_as};

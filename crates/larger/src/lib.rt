@@ -1,5 +1,7 @@
 // The larger of two texts, for Rattle and for C. It has a static library of its own: a second caller of the reader beside
 // `decimal128_read` would cost every reading.
+#![tactic(auto)]
+
 ghost use Rattle.std.specs.Prelude.{◌≡◌};
 ghost use Rattle.meaning.specs.Order.{Choice};
 ghost use Rattle.larger.specs.Part.{slice, named, LargerAllows};

@@ -1,4 +1,6 @@
 // The 16 stored bytes of a decimal, taken apart and put together.
+#![tactic(auto)]
+
 ghost use Rattle.std.specs.Prelude.{◌≡◌, ◌+◌, ◌*◌, ◌/◌, ◌%◌, ◌^◌, ◌<◌, eqb};
 ghost use Rattle.meaning.specs.Decimal.{InRange, Decimal};
 ghost use Rattle.meaning.specs.Layout.{stored, bytes_of, or_zero, decode, encode, bit_of};

@@ -1,4 +1,6 @@
 // Numbers below 2^128 as four limbs of 32 bits, by value, lowest limb first: what a `u128` is in the Rust.
+#![tactic(auto)]
+
 ghost use Rattle.std.specs.Prelude.{◌≡◌, ◌+◌, ◌-◌, ◌*◌, ◌/◌, ◌%◌, ◌^◌, ◌<◌, ◌≤◌, ltb};
 ghost use Rattle.limbs.specs.Value.{value};
 ghost use Rattle.limbs.specs.Order.{order};

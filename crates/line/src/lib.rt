@@ -1,4 +1,6 @@
 // A stream of bytes cut into lines, and the record of each: document 01, 'The line program'.
+#![tactic(auto)]
+
 mod feeding;
 pub mod program;
 mod puts;

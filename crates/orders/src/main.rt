@@ -1,5 +1,7 @@
 // How two stored values stand, for each pair of standard input: 32 bytes a pair, one record a pair, the number and the order
 // parted by a tab. What it is run on in the gate, and must write, is made by tests/comparing/make-list from gcc's answers.
+#![tactic(auto)]
+
 ghost use Rattle.std.specs.Prelude.{◌+◌, ◌≤◌, length};
 
 use decimal128::{Compared, Decimal128};

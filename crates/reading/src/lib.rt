@@ -1,4 +1,6 @@
 // Text to value: document 01, 'Reading text', steps 1 to 11.
+#![tactic(auto)]
+
 ghost use Rattle.std.specs.Prelude.{◌≡◌, true, map, ◌+◌, ◌-◌, ◌≤◌, ◌<◌, length, drop};
 ghost use Rattle.meaning.specs.Reading.{origin, lower, sign_length, strip_zeros, read_at, step2, step7};
 ghost use Rattle.reading.specs.Scan.{Scanned};

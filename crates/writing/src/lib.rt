@@ -1,4 +1,6 @@
 // The text of a value and the debug form of its bytes, into a lent buffer.
+#![tactic(auto)]
+
 ghost use Rattle.std.specs.Prelude.{◌≡◌, ◌≤◌};
 ghost use Rattle.limbs.specs.Value.{value};
 ghost use Rattle.layout.specs.Unpacked.{meant, TrueCount};

@@ -1,0 +1,18 @@
+use borrow.Author.Rules.{rules}
+use mathlib.Core.Path.{sym, ◌∙◌}
+use native.Mathlib.Omega.{arith}
+use Rattle.limbs.proofs.Laws.{longer, divides, value_four}
+use Rattle.limbs.proofs.divide.Goals as goal
+
+pub returns : goal.returns
+returns c =
+    divides
+    (longer _ _ _ _ _ _ _
+    (longer _ _ _ _ _ _ _
+    (longer _ _ _ _ _ _ _
+    (longer c.args.by 0 0 0 _ _ _ (omega arith) c.divide_limb-s3.ensures.0)
+    c.divide_limb-s2.ensures.0)
+    c.divide_limb-s1.ensures.0)
+    c.divide_limb-s0.ensures.0
+    ∙ sym (value_four c.args.a (search rules)))
+    c.divide_limb-s0.ensures.1
