@@ -16,7 +16,7 @@ ghost use Rattle.comparing.specs.Told.{told, told_of, turned_of, side_of, is_fin
 use layout::{Fields, Kind, Unpacked};
 use limbs::Order;
 
-#[derive(Drop)]
+#[derive(Clone, Copy)]
 pub enum Relation {
     Less,
     Equal,

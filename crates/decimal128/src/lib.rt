@@ -13,13 +13,13 @@ pub mod c;
 mod framing;
 
 // Sixteen stored bytes, lowest first.
-#[derive(Drop)]
+#[derive(Clone, Copy)]
 pub struct Decimal128 {
     pub bytes: [u8; 16],
 }
 
 // What a text is read as: the number of a refusal, its place in the text and 16 zero bytes, or 0 twice and the value's bytes.
-#[derive(Drop)]
+#[derive(Clone, Copy)]
 pub struct Answer {
     pub number: u32,
     pub place: usize,
@@ -27,14 +27,14 @@ pub struct Answer {
 }
 
 // What stored bytes are taken as: the number of a refusal and 16 zero bytes, or 0 and the bytes.
-#[derive(Drop)]
+#[derive(Clone, Copy)]
 pub struct Parsed {
     pub number: u32,
     pub bytes: [u8; 16],
 }
 
 // How two stored values stand: the number of a refusal and 0, or 0 and -1, 0 or 1.
-#[derive(Drop)]
+#[derive(Clone, Copy)]
 pub struct Compared {
     pub number: u32,
     pub order: i32,

@@ -7,7 +7,7 @@ ghost use Rattle.meaning.specs.Layout.{stored, bytes_of, or_zero, decode, encode
 ghost use Rattle.limbs.specs.Value.{value};
 ghost use Rattle.layout.specs.Unpacked.{said, said_by, meant, digits_of, TrueCount};
 
-#[derive(Drop)]
+#[derive(Clone, Copy)]
 pub enum Kind {
     Nan { signalling: bool },
     Infinity,
@@ -16,7 +16,7 @@ pub enum Kind {
 
 // What the bits say. The exponent is the stored field, which is the exponent + 6176. A special value has exponent and
 // coefficient 0.
-#[derive(Drop)]
+#[derive(Clone, Copy)]
 pub struct Fields {
     pub negative: bool,
     pub kind: Kind,
@@ -25,7 +25,7 @@ pub struct Fields {
 }
 
 // The same and how many decimal digits the coefficient has, 1 to 34; 1 for zero and for a special value.
-#[derive(Drop)]
+#[derive(Clone, Copy)]
 pub struct Unpacked {
     pub fields: Fields,
     pub digits: usize,

@@ -80,7 +80,7 @@ pub fn less(a: [u32; 4], b: [u32; 4]) -> bool
     a[0] < b[0]
 }
 
-#[derive(Drop)]
+#[derive(Clone, Copy)]
 pub enum Order {
     Less,
     Equal,
@@ -114,14 +114,14 @@ pub fn compare(a: [u32; 4], b: [u32; 4]) -> Order
 // ---- sums and products
 
 // One limb of a sum, a product or a difference, and what it hands to the next limb.
-#[derive(Drop)]
+#[derive(Clone, Copy)]
 pub struct Limb {
     pub low: u32,
     pub carry: u32,
 }
 
 // A number of four limbs, and what is above them.
-#[derive(Drop)]
+#[derive(Clone, Copy)]
 pub struct Carried {
     pub low: [u32; 4],
     pub carry: u32,
@@ -237,14 +237,14 @@ pub fn subtract(a: [u32; 4], b: [u32; 4]) -> [u32; 4]
 // ---- division
 
 // One limb of a quotient, and what is left for the next limb.
-#[derive(Drop)]
+#[derive(Clone, Copy)]
 pub struct DividedLimb {
     pub quotient: u32,
     pub rest: u32,
 }
 
 // A quotient, and the remainder.
-#[derive(Drop)]
+#[derive(Clone, Copy)]
 pub struct Divided {
     pub quotient: [u32; 4],
     pub rest: u32,

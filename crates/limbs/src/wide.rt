@@ -5,14 +5,14 @@ ghost use Rattle.limbs.specs.Value.{value};
 ghost use Rattle.limbs.specs.Wide.{Signed, Spells, WrittenAs, signed, in_range, Stands, Raised, Narrowed, Lowered, stand_at};
 
 // The number that digits write, where it is one and below 2^128.
-#[derive(Drop)]
+#[derive(Clone, Copy)]
 pub struct Size {
     pub good: bool,
     pub limbs: [u32; 4],
 }
 
 // A written exponent, where it is one.
-#[derive(Drop)]
+#[derive(Clone, Copy)]
 pub struct Wide {
     pub good: bool,
     pub negative: bool,
@@ -20,7 +20,7 @@ pub struct Wide {
 }
 
 // An exponent as steps 7 to 10 need it, or the number of a refusal and nothing else.
-#[derive(Drop)]
+#[derive(Clone, Copy)]
 pub struct Shift {
     pub number: u32,
     pub negative: bool,
@@ -28,7 +28,7 @@ pub struct Shift {
 }
 
 // Where an exponent stands: the field, and by how much it is below -6176 or above 6111, up to 35.
-#[derive(Drop)]
+#[derive(Clone, Copy)]
 pub struct Stand {
     pub field: u32,
     pub below: u32,

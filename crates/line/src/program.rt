@@ -5,7 +5,7 @@ use crate::{Wanted, feeding};
 use libc::{STDERR_FILENO, STDIN_FILENO, STDOUT_FILENO};
 
 // Whether to go on, and how long the line is that has not ended.
-#[derive(Drop)]
+#[derive(Clone, Copy)]
 struct Went {
     on: bool,
     len: usize,

@@ -22,7 +22,7 @@ pub const INEXACT_ROUNDING: u32 = 6;
 pub const UNPARSEABLE: u32 = 7;
 
 // The number of a refusal and its place, an offset in the text, or 0 twice and the value. A refusal carries a zero.
-#[derive(Drop)]
+#[derive(Clone, Copy)]
 pub struct Answer {
     pub number: u32,
     pub place: usize,

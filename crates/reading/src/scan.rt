@@ -9,7 +9,7 @@ pub const SHORT: usize = 19;
 
 // What the pass has found so far: where the first two points stand, or the length of the text, how many points there
 // are, and the number that the digits write. The value means nothing in a text that is not short.
-#[derive(Drop)]
+#[derive(Clone, Copy)]
 pub struct Found {
     pub point: usize,
     pub second: usize,
@@ -18,7 +18,7 @@ pub struct Found {
 }
 
 // The same, and where the decimal part stops.
-#[derive(Drop)]
+#[derive(Clone, Copy)]
 pub struct Spans {
     pub stop: usize,
     pub found: Found,

@@ -34,7 +34,7 @@ fn put_few(buf: &mut [u8], at: usize, k: usize, v: u32)
 // ---- nine digits at a time
 
 // A number in two parts: its last nine digits, and what stands before them.
-#[derive(Drop)]
+#[derive(Clone, Copy)]
 struct Cut {
     last: u32,
     before: u64,
@@ -53,7 +53,7 @@ fn cut_nine(d: u64) -> Cut
 }
 
 // A number in chunks of nine digits, the lowest first.
-#[derive(Drop)]
+#[derive(Clone, Copy)]
 struct Nines {
     n0: u32,
     n1: u32,

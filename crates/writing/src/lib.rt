@@ -18,7 +18,7 @@ pub mod pieces;
 mod shapes;
 
 // The length of what was written, or that there was no room.
-#[derive(Drop)]
+#[derive(Clone, Copy)]
 pub enum Put {
     Done(usize),
     NoRoom,

@@ -1,0 +1,7 @@
+use mathlib.Core.Path.{refl}
+use Rattle.layout.specs.Unpacked.{said}
+use Rattle.layout.proofs.finite.Goals as goal
+
+pub returns : goal.returns
+unfolding said
+returns c = refl
