@@ -1,0 +1,12 @@
+use borrow.Author.Rules.{rules}
+use mathlib.Core.Path.{◌≡◌, refl, ◌∙◌}
+use Prim.Native.Nat.{◌*◌, ◌^◌}
+use Rattle.limbs.specs.Value.{value}
+use Rattle.comparing.proofs.Orders.{is_none, is_some, none_raised, out_of_reach, nine_less, over_nine, over_last, last_raised, carries, held}
+use Rattle.comparing.proofs.raised.Given as goal
+
+abbrev pub invariant-loop-left : goal.invariant-loop-left
+invariant-loop-left l = value l.n * 10 ^ l.left ≡ value l.initial.n * 10 ^ l.initial.left
+
+abbrev pub decreases-loop-left : goal.decreases-loop-left
+decreases-loop-left l = l.left
