@@ -1,0 +1,13 @@
+use mathlib.Core.Path.{◌≡◌, ◌∙◌}
+use Prim.Native.Nat.{◌-◌, ◌≤◌}
+use native.Mathlib.Omega.{arith}
+use lib.ListN.{replicate}
+use borrow.Author.Rules.{rules}
+use Rattle.writing.proofs.Written.{Filling, filling_none, push_same}
+use Rattle.writing.proofs.pieces.put_zeros.Given as goal
+
+abbrev pub invariant-loop-i : goal.invariant-loop-i
+invariant-loop-i l = (l.i ≤ l.n) × Filling l.at (replicate l.i 48) l.initial.buf l.buf
+
+abbrev pub decreases-loop-i : goal.decreases-loop-i
+decreases-loop-i l = l.n - l.i
