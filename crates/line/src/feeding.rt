@@ -65,7 +65,7 @@ fn ended(
 fn advance(wanted: Wanted, chunk: &[u8], fed: Fed, line: &mut [u8], out: &mut [u8]) -> Fed
     requires { (4097 ≤ length line.old) × (fed.from < length chunk.now) × (fed.count + 90 ≤ length out.old) }
     ensures feeds { Feeds (record_for wanted) chunk.now fed line.old out.old result line.new out.new }
-    ensures from_lt_from { fed.from < result.from }
+    ensures goes_on { fed.from < result.from }
 {
     let from = fed.from;
     let len = fed.len;
@@ -98,7 +98,7 @@ pub fn feed(
     out: &mut [u8],
 ) -> Fed
     ensures feeds { Feeds (record_for wanted) chunk.now (record { from = from; len = len; count = 0 }) line.old out.old result line.new out.new }
-    ensures from_lt_from { from < length chunk.now → 90 ≤ length out.old → from < result.from }
+    ensures goes_on { from < length chunk.now → 90 ≤ length out.old → from < result.from }
 {
     let mut fed = Fed {
         from: from,

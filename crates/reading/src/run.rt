@@ -105,8 +105,8 @@ fn push_row(c: [u32; 4], s: &[u8], from: usize, to: usize) -> [u32; 4]
 
 // The number of all digits: those before gave c.
 pub fn push_digits(c: [u32; 4], s: &[u8], from: usize, to: usize, point: usize) -> [u32; 4]
-    requires from_le_to { (from ≤ to) × (to ≤ length s.now) × (all_digits (run point from to s.now) ≡ true) }
-    requires s_len_bound { (length (run point from to s.now) ≤ 34) × (value c < 10 ^ (34 - length (run point from to s.now))) }
+    requires row { (from ≤ to) × (to ≤ length s.now) × (all_digits (run point from to s.now) ≡ true) }
+    requires fits { (length (run point from to s.now) ≤ 34) × (value c < 10 ^ (34 - length (run point from to s.now))) }
     ensures { value result ≡ number (value c) (run point from to s.now) }
 {
     if point < from {

@@ -1,0 +1,16 @@
+use mathlib.Core.Path.{◌≡◌, refl, sym, ◌∙◌}
+use mathlib.Core.List.{map}
+use Prim.Native.Nat.{◌≤◌, ◌-◌}
+use native.Mathlib.Omega.{arith}
+use lib.ListN.{length, drop}
+use borrow.Author.Rules.{rules}
+use Rattle.meaning.specs.Reading.{lower}
+use Rattle.reading.specs.Scan.{first_at}
+use Rattle.reading.proofs.Letters.{e_here, e_later, e_none}
+use Rattle.reading.proofs.words.find_e.Given as goal
+
+abbrev pub invariant-loop-i : goal.invariant-loop-i
+invariant-loop-i l = (l.i ≤ length l.s) × (first_at 101 (length l.s) l.i (map lower (drop l.i l.s)) ≡ first_at 101 (length l.s) l.from (map lower (drop l.from l.s)))
+
+abbrev pub decreases-loop-i : goal.decreases-loop-i
+decreases-loop-i l = length l.s - l.i
