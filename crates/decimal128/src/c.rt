@@ -26,8 +26,7 @@ fn length_of(put: Put) -> usize
     }
 }
 
-#[unsafe(no_mangle)]
-pub extern "C" fn decimal128_read(text: &[u8], out: &mut [u8; 16], place: &mut usize) -> u32
+pub fn decimal128_read(text: &[u8], out: &mut [u8; 16], place: &mut usize) -> u32
     ensures { ReadGives text.now result out.new place.new }
 {
     let answer = crate::read(text);
@@ -37,8 +36,7 @@ pub extern "C" fn decimal128_read(text: &[u8], out: &mut [u8; 16], place: &mut u
     answer.number
 }
 
-#[unsafe(no_mangle)]
-pub extern "C" fn decimal128_write(bytes: &[u8; 16], buf: &mut [u8], len: &mut usize) -> u32
+pub fn decimal128_write(bytes: &[u8; 16], buf: &mut [u8], len: &mut usize) -> u32
     ensures { PutGives (write_text (decode (stored bytes.now))) buf.old result len.new buf.new }
 {
     let put = Decimal128::from_bytes(*bytes).write(buf);
@@ -46,8 +44,7 @@ pub extern "C" fn decimal128_write(bytes: &[u8; 16], buf: &mut [u8], len: &mut u
     number_of(put)
 }
 
-#[unsafe(no_mangle)]
-pub extern "C" fn decimal128_debug(bytes: &[u8; 16], buf: &mut [u8], len: &mut usize) -> u32
+pub fn decimal128_debug(bytes: &[u8; 16], buf: &mut [u8], len: &mut usize) -> u32
     ensures { PutGives (debug_text bytes.now) buf.old result len.new buf.new }
 {
     let put = Decimal128::from_bytes(*bytes).debug(buf);
@@ -55,8 +52,7 @@ pub extern "C" fn decimal128_debug(bytes: &[u8; 16], buf: &mut [u8], len: &mut u
     number_of(put)
 }
 
-#[unsafe(no_mangle)]
-pub extern "C" fn decimal128_parse(bytes: &[u8], out: &mut [u8; 16]) -> u32
+pub fn decimal128_parse(bytes: &[u8], out: &mut [u8; 16]) -> u32
     ensures { ParseGives bytes.now result out.new }
 {
     let answer = crate::parse(bytes);
@@ -65,8 +61,7 @@ pub extern "C" fn decimal128_parse(bytes: &[u8], out: &mut [u8; 16]) -> u32
     answer.number
 }
 
-#[unsafe(no_mangle)]
-pub extern "C" fn decimal128_compare(a: &[u8; 16], b: &[u8; 16], order: &mut i32) -> u32
+pub fn decimal128_compare(a: &[u8; 16], b: &[u8; 16], order: &mut i32) -> u32
     ensures { CompareGives a.now b.now result order.new }
 {
     let answer = crate::compared_as(comparing::compare(a, b));

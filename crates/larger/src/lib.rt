@@ -39,8 +39,7 @@ pub fn larger<'a>(a: &'a [u8], b: &'a [u8]) -> &'a [u8]
 }
 
 // include/decimal128.h says what it gives.
-#[unsafe(no_mangle)]
-pub extern "C" fn decimal128_larger<'a>(a: &'a [u8], b: &'a [u8], part: &mut &'a [u8])
+pub fn decimal128_larger<'a>(a: &'a [u8], b: &'a [u8], part: &mut &'a [u8])
     ensures { LargerAllows a.entry b.entry part.new }
 {
     *part = larger(a, b);
