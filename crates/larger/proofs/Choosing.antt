@@ -60,7 +60,7 @@ picks a b e = ap (λ (c : Choice). named c a b) (sym e)
 pub one_of_three_slices : OneOfThreeSlices
 one_of_three_slices a b r k = go (larger a.now b.now) k
   where
-    go : (c : Choice) → slice r ≡ named c a b → (slice r ≡ slice a) ⊎ ((slice r ≡ slice b) ⊎ (slice r ≡ (a.ptr, [])))
+    go : (c : Choice) → slice r ≡ named c a b → (slice r ≡ slice a) ⊎ ((slice r ≡ slice b) ⊎ (slice r ≡ (a.ref_ptr, [])))
     go first e = inl e
     go second e = inr (inl e)
     go neither e = inr (inr e)

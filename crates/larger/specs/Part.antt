@@ -14,7 +14,7 @@ slice r = (r.ref_ptr, r.now)
 abbrev pub named : Choice → Bor (List ℕ) → Bor (List ℕ) → Slice
 named first a b = slice a
 named second a b = slice b
-named neither a b = (a.ptr, [])
+named neither a b = (a.ref_ptr, [])
 
 abbrev pub LargerAllows : Bor (List ℕ) → Bor (List ℕ) → Bor (List ℕ) → Type 0
 LargerAllows a b r = slice r ≡ named (larger a.now b.now) a b
