@@ -2,7 +2,7 @@
 ghost use Rattle.std.specs.Prelude.{◌≤◌, length};
 
 use crate::{Wanted, feeding};
-use libc::{STDERR_FILENO, STDIN_FILENO, STDOUT_FILENO};
+use std::io::{Eprint, Input, Print, Read};
 
 // Whether to go on, and how long the line is that has not ended.
 #[derive(Clone, Copy)]
@@ -11,28 +11,29 @@ struct Went {
     len: usize,
 }
 
-// `lines: standard output cannot be written`, on standard error.
-fn complain(wanted: Wanted, what: &[u8]) {
-    match wanted {
-        Wanted::Texts => io::write_all(STDERR_FILENO, b"lines: standard "),
-        Wanted::Stored => io::write_all(STDERR_FILENO, b"stored: standard "),
+// `lines: standard output cannot be written`, on standard error. Where that cannot be written either, nothing is left to say.
+fn complain(rt: &impl Eprint, wanted: Wanted, what: &str) {
+    let name = match wanted {
+        Wanted::Texts => "lines",
+        Wanted::Stored => "stored",
     };
-    io::write_all(STDERR_FILENO, what);
+    let _ = eprintln!(rt; "{name}: standard {what}");
 }
 
 // The first n bytes of the output; false where they could not be written.
-fn write(wanted: Wanted, out: &[u8], n: usize) -> bool
+fn write(rt: &(impl Print + Eprint), wanted: Wanted, out: &[u8], n: usize) -> bool
     requires { n ≤ length out.now }
 {
-    let is_written = io::write_all(STDOUT_FILENO, &out[..n]);
+    let is_written = rt.write_all(&out[..n]).is_ok();
     if !is_written {
-        complain(wanted, b"output cannot be written\n");
+        complain(rt, wanted, "output cannot be written");
     }
     is_written
 }
 
 // All lines of a block.
 fn drain(
+    rt: &(impl Print + Eprint),
     wanted: Wanted,
     block: &[u8],
     line: &mut [u8; 4097],
@@ -43,7 +44,7 @@ fn drain(
     let mut held = len;
     while from < block.len() {
         let fed = feeding::feed(wanted, block, from, line, held, out);
-        if !write(wanted, out, fed.count) {
+        if !write(rt, wanted, out, fed.count) {
             return Went {
                 on: false,
                 len: held,
@@ -60,6 +61,7 @@ fn drain(
 
 // The lines of a block's first n bytes.
 fn drain_first(
+    rt: &(impl Print + Eprint),
     wanted: Wanted,
     block: &[u8],
     n: usize,
@@ -69,52 +71,59 @@ fn drain_first(
 ) -> Went
     requires { n ≤ length block.now }
 {
-    drain(wanted, &block[..n], line, len, out)
+    drain(rt, wanted, &block[..n], line, len, out)
 }
 
 // The last line, at the end of the input.
-fn last(wanted: Wanted, line: &[u8; 4097], len: usize, out: &mut [u8; 65536]) {
+fn last(
+    rt: &(impl Print + Eprint),
+    wanted: Wanted,
+    line: &[u8; 4097],
+    len: usize,
+    out: &mut [u8; 65536],
+) {
     let n = feeding::finish(wanted, line, len, out);
-    write(wanted, out, n);
+    write(rt, wanted, out, n);
 }
 
 // One block of the input, or its end.
 fn turn(
+    rt: &(impl Print + Eprint),
+    input: &mut impl Read,
     wanted: Wanted,
     block: &mut [u8; 65536],
     line: &mut [u8; 4097],
     len: usize,
     out: &mut [u8; 65536],
 ) -> Went {
-    let got = libc::read(STDIN_FILENO, block);
-    if got < 0 {
-        complain(wanted, b"input cannot be read\n");
+    let Ok(n) = input.read(block) else {
+        complain(rt, wanted, "input cannot be read");
         return Went {
             on: false,
             len: len,
         };
-    }
-    let n = io::count(got, block);
+    };
     if n == 0 {
-        last(wanted, line, len, out);
+        last(rt, wanted, line, len, out);
         return Went {
             on: false,
             len: len,
         };
     }
-    drain_first(wanted, block, n, line, len, out)
+    drain_first(rt, wanted, block, n, line, len, out)
 }
 
 // The whole of standard input. Nothing says that it ends, so the loop counts its turns down, from a number that no run
 // uses up.
-pub fn run(wanted: Wanted) {
-    let mut block = io::large_buffer();
+pub fn run(rt: &(impl Input + Print + Eprint), wanted: Wanted) {
+    let mut input = rt.reader();
+    let mut block = [0u8; 65536];
     let mut line = [0u8; 4097];
-    let mut out = io::large_buffer();
+    let mut out = [0u8; 65536];
     let mut len: usize = 0;
     let mut turns = u64::MAX;
     while turns > 0 {
-        let went = turn(wanted, &mut block, &mut line, len, &mut out);
+        let went = turn(rt, &mut input, wanted, &mut block, &mut line, len, &mut out);
         if !went.on {
             return;
         }

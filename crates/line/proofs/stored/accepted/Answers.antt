@@ -1,0 +1,13 @@
+use mathlib.Core.Path.{◌≡◌}
+use native.Mathlib.Omega.{arith}
+use lib.ListN.{length, length-set}
+use borrow.Author.Rules.{rules}
+use Rattle.line.proofs.Wrote.{record_put}
+use Rattle.line.proofs.stored.accepted.Goals as goal
+
+pub returns : goal.returns
+returns c =
+    let text = c.put_text-text_end.ensures in
+    let debug = c.put_debug-end.ensures in
+    record_put c.args.bytes c.args.out.now c.requires text.few debug.long
+    c.put_two.ensures text.wrote debug.wrote

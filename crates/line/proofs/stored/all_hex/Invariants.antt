@@ -1,0 +1,14 @@
+use mathlib.Core.Path.{◌≡◌, refl, sym, ◌∙◌}
+use Prim.Native.Nat.{◌≤◌, ◌-◌}
+use native.Mathlib.Omega.{arith}
+use lib.ListN.{length, drop}
+use borrow.Author.Rules.{rules}
+use Rattle.meaning.specs.Stream.{all_hex}
+use Rattle.line.proofs.Hex.{hex_here, hex_stops, hex_all}
+use Rattle.line.proofs.stored.all_hex.Given as goal
+
+abbrev pub invariant-loop-i : goal.invariant-loop-i
+invariant-loop-i l = (l.i ≤ length l.s) × (all_hex (drop l.i l.s) ≡ all_hex l.s)
+
+abbrev pub decreases-loop-i : goal.decreases-loop-i
+decreases-loop-i l = length l.s - l.i
