@@ -2,6 +2,6 @@
 // is made by tests/replay/make from the Rust's answers and MongoDB's published cases.
 #![tactic(auto)]
 
-fn main() {
-    line::program::run(line::Wanted::Texts);
+fn main(rt: HostRuntime) {
+    line::program::run(&rt, line::Wanted::Texts);
 }

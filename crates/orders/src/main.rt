@@ -5,7 +5,7 @@
 ghost use Rattle.std.specs.Prelude.{◌+◌, ◌≤◌, length};
 
 use decimal128::{Compared, Decimal128};
-use libc::{STDERR_FILENO, STDIN_FILENO, STDOUT_FILENO};
+use std::io::{Eprint, Input, Print, Read};
 use writing::pieces;
 
 fn sixteen(block: &[u8], at: usize) -> [u8; 16]
@@ -63,29 +63,44 @@ fn records(block: &[u8], n: usize, out: &mut [u8]) -> usize
     at
 }
 
+// Reads until the block is full, the input ends or a read fails: how many bytes stand in the block then.
+fn read_full(input: &mut impl Read, block: &mut [u8; 65536]) -> usize
+    ensures { result ≤ 65536 }
+{
+    let mut done: usize = 0;
+    while done < 65536 {
+        let Ok(n) = input.read(&mut block[done..]) else {
+            return done;
+        };
+        if n == 0 {
+            return done;
+        }
+        done += n;
+    }
+    done
+}
+
 // The first n bytes of the output; false where they could not be written.
-fn write(out: &[u8], n: usize) -> bool
+fn write(rt: &(impl Print + Eprint), out: &[u8], n: usize) -> bool
     requires { n ≤ length out.now }
 {
-    let is_written = io::write_all(STDOUT_FILENO, &out[..n]);
+    let is_written = rt.write_all(&out[..n]).is_ok();
     if !is_written {
-        io::write_all(
-            STDERR_FILENO,
-            b"orders: standard output cannot be written\n",
-        );
+        let _ = eprintln!(rt; "orders: standard output cannot be written");
     }
     is_written
 }
 
 // Nothing says that the input ends, so the loop counts its turns down, from a number that no run uses up.
-fn main() {
-    let mut block = io::large_buffer();
-    let mut out = io::large_buffer();
+fn main(rt: HostRuntime) {
+    let mut input = rt.reader();
+    let mut block = [0u8; 65536];
+    let mut out = [0u8; 65536];
     let mut turns = u64::MAX;
     while turns > 0 {
-        let n = io::read_full(STDIN_FILENO, &mut block);
+        let n = read_full(&mut input, &mut block);
         let end = records(&block, n, &mut out);
-        if !write(&out, end) {
+        if !write(&rt, &out, end) {
             return;
         }
         if n < 65536 {

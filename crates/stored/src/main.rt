@@ -2,6 +2,6 @@
 // in the gate, and must write, is made by tests/replay/make.
 #![tactic(auto)]
 
-fn main() {
-    line::program::run(line::Wanted::Stored);
+fn main(rt: HostRuntime) {
+    line::program::run(&rt, line::Wanted::Stored);
 }
