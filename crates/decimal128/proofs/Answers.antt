@@ -5,7 +5,7 @@ use mathlib.Core.List.{List, [], ◌∷◌, ◌++◌}
 use Prim.Native.Nat.{ℕ, ◌+◌, ◌≤◌, ◌<◌}
 use native.Mathlib.Omega.{arith}
 use borrow.Author.Tests.{eq-eqb, ne_eqb}
-use Rattle.meaning.specs.Refusals.{Refusal, number_of}
+use Rattle.meaning.specs.Refusals.{number_of}
 use Rattle.meaning.specs.Layout.{bytes_of, encode}
 use Rattle.meaning.specs.Reading.{Reading, Located, accepted_as, read_at, read_text}
 use Rattle.meaning.specs.Reading.Reading.{refused, accepted}
@@ -20,7 +20,6 @@ use Rattle.layout.proofs.Laws.{tab}
 use Rattle.reading.specs.declared.answer.Answer as reading
 use Rattle.reading.specs.Told.{named, told}
 use Rattle.reading.proofs.Names.{number_of_lem}
-use Rattle.decimal128.specs.declared.Answer.{Answer}
 use Rattle.decimal128.specs.Operations.{answered}
 use Rattle.decimal128.specs.Record.{dashes}
 

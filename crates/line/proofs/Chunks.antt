@@ -9,7 +9,6 @@ use lib.ListN.{length, take, drop, replicate, length-replicate, length-append, l
 use lib.Seq.{slice, slice_empty, slice-cons, length-take-le, take-take, drop-append-le, drop_at, take_at, take-add}
 use borrow.Author.Tests.{ne_eqb}
 use borrow.Rule.Slice.PartMut.{mid_of, put_mid}
-use Rattle.meaning.specs.Reading.{holds}
 use Rattle.meaning.specs.Stream.{without_cr, records_of, lines_after}
 use Rattle.meaning.proofs.Numbers.{le_or}
 use Rattle.writing.specs.Written.{written}

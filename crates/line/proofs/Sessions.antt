@@ -1,7 +1,7 @@
 -- Whoever feeds a stream by the contract of `feed` writes the records of the whole, however it is cut.
 use mathlib.Core.Path.{◌≡◌, sym, ap, ◌∙◌}
 use mathlib.Core.List.{List, [], ◌++◌, append_assoc}
-use Prim.Native.Nat.{ℕ, ◌+◌}
+use Prim.Native.Nat.{ℕ}
 use native.Mathlib.Omega.{arith}
 use lib.ListN.{drop, drop_of_length-le}
 use lib.Seq.{slice}

@@ -1,20 +1,20 @@
 -- Every accepted text is a text of the grammar or a special word.
 use mathlib.Core.Path.{◌≡◌, refl, sym, ap, ◌∙◌, subst}
 use mathlib.Core.Logic.{◌⊎◌, inl, inr, ⊎_elim}
-use mathlib.Core.Bool.{Bool, true, false, cond, ◌&&◌, ◌||◌, true≢false}
+use mathlib.Core.Bool.{Bool, true, false, ◌&&◌, ◌||◌, true≢false}
 use mathlib.Core.List.{List, [], ◌∷◌, ◌++◌, map, append-nil, append_assoc}
-use Prim.Native.Nat.{ℕ, ◌+◌, ◌-◌, ◌≤◌, ◌<◌}
+use Prim.Native.Nat.{ℕ, ◌+◌, ◌-◌, ◌≤◌}
 use native.Mathlib.Omega.{arith}
 use lib.Dec.{eqb, leb, ltb}
 use lib.ListN.{length, take, drop, replicate, take-append-drop}
-use borrow.Author.Tests.{eqb-true, eqb-false, leb-true, ltb-true, ne_eqb}
+use borrow.Author.Tests.{eqb-true, leb-true, ltb-true, ne_eqb}
 use Rattle.meaning.specs.Refusals.{Refusal}
 use Rattle.meaning.specs.Decimal.{Decimal, InRange}
-use Rattle.meaning.specs.Decimal.Decimal.{nan, infinity, finite}
-use Rattle.meaning.specs.Reading.{Reading, Located, Written, bytes, lower, is_digit, same, number, all_digits, all_zeros, holds, decimal_part, before, from, fraction, some_digits, origin, high, low, lost, kept, exponent, upward, downward, strip_zeros, step2, step3, step4, step5, step6, step7, step8, step9, step10, step11, read_at, read_text}
+use Rattle.meaning.specs.Decimal.Decimal.{finite}
+use Rattle.meaning.specs.Reading.{Reading, Located, Written, bytes, lower, is_digit, same, number, all_digits, all_zeros, holds, decimal_part, before, from, fraction, some_digits, origin, high, low, lost, exponent, upward, downward, strip_zeros, step2, step3, step4, step5, step6, step7, step8, step9, step10, step11, read_at, read_text}
 use Rattle.meaning.specs.Reading.Reading.{refused, accepted}
 use Rattle.meaning.specs.Reading.Written.{written, wrong}
-use Rattle.meaning.specs.Grammar.{Sign, Fraction, Power, FiniteText, WrittenE, SignedE, Grammatical, Kept, Word, sign_text, negative, fraction_text, after, letter, power_text, text_of, digits_of}
+use Rattle.meaning.specs.Grammar.{Sign, Fraction, Power, FiniteText, WrittenE, SignedE, Grammatical, Kept, Word, sign_text, negative, fraction_text, after, letter, power_text, text_of}
 use Rattle.meaning.specs.Grammar.Sign.{none, plus, minus}
 use Rattle.meaning.specs.Grammar.Fraction.{no_point, point}
 use Rattle.meaning.specs.Grammar.Power.{no_power, power}

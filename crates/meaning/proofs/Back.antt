@@ -1,20 +1,18 @@
 -- What writing and reading again makes of 16 stored bytes, canonical or not.
-use mathlib.Core.Path.{◌≡◌, refl, sym, ap, ◌∙◌}
+use mathlib.Core.Path.{◌≡◌, ap, ◌∙◌}
 use mathlib.Core.Logic.{⊎_elim}
-use mathlib.Core.Bool.{cond, true, false}
 use Prim.Native.Nat.{ℕ, suc, ◌^◌, ◌<◌}
 use native.Mathlib.Omega.{arith}
-use lib.Dec.{eqb, ltb}
 use borrow.Author.Tests.{eq-eqb, ne_eqb, lt-ltb, le-ltb}
 use Rattle.meaning.specs.Decimal.{Decimal}
-use Rattle.meaning.specs.Decimal.Decimal.{nan, infinity, finite}
-use Rattle.meaning.specs.Layout.{or_zero, stored, bytes_of, decode, encode}
+use Rattle.meaning.specs.Decimal.Decimal.{infinity, finite}
+use Rattle.meaning.specs.Layout.{or_zero, stored, decode, encode}
 use Rattle.meaning.specs.Bits.{bits, bit, comes_back_as}
 use Rattle.meaning.specs.Answers.{number_given, bytes_given}
 use Rattle.meaning.specs.Promises.{StoredComesBack, plain_nan}
 use Rattle.meaning.proofs.Numbers.{le_or, eq_or}
 use Rattle.meaning.proofs.Bytes.{sixteen_bytes_are_a_number}
-use Rattle.meaning.proofs.Fields.{Form, is_nan, is_infinity, is_second, is_first, form, decodes_nan, decodes_infinity, decodes_second, decodes_first, decodes_in_range, infinity_kept, first_kept}
+use Rattle.meaning.proofs.Fields.{is_nan, is_infinity, is_second, is_first, form, decodes_nan, decodes_infinity, decodes_second, decodes_first, decodes_in_range, infinity_kept, first_kept}
 use Rattle.meaning.proofs.Round.{reads_what_was_written}
 
 abbrev again : ℕ → ℕ

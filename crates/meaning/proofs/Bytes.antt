@@ -1,10 +1,10 @@
 -- Laws of `stored` and `bytes_of`: a number and its bytes, lowest first.
-use mathlib.Core.Path.{◌≡◌, refl, ap, ◌∙◌}
+use mathlib.Core.Path.{◌≡◌, refl, ap}
 use mathlib.Core.List.{List, [], ◌∷◌}
 use Prim.Native.Nat.{ℕ, zero, suc, ◌+◌, ◌*◌, ◌/◌, ◌%◌, ◌^◌, ◌<◌}
 use native.Mathlib.Nat.{pow-succ'}
 use native.Mathlib.Omega.{arith}
-use lib.ListN.{length, get_or}
+use lib.ListN.{length}
 use Rattle.meaning.specs.Layout.{stored, bytes_of}
 use Rattle.meaning.specs.Promises.{Bytes, SixteenBytesAreANumber, ANumberIsSixteenBytes}
 

@@ -1,18 +1,18 @@
 -- The two accounts of the 128 bits agree, and encode and decode undo each other.
-use mathlib.Core.Path.{◌≡◌, refl, sym, ap, ◌∙◌, subst}
-use mathlib.Core.Logic.{◌⊎◌, inl, inr, ⊎_elim}
+use mathlib.Core.Path.{◌≡◌, refl, sym, ap, ◌∙◌}
+use mathlib.Core.Logic.{⊎_elim}
 use mathlib.Core.Bool.{Bool, true, false, cond, true≢false}
-use Prim.Native.Nat.{ℕ, zero, suc, ◌+◌, ◌-◌, ◌*◌, ◌/◌, ◌%◌, ◌^◌, ◌≤◌, ◌<◌}
-use native.Mathlib.Nat.{add-mul, mul_assoc, mul-le-mul_right, add-zero, div-one, mod-lt, div-add-mod'}
+use Prim.Native.Nat.{ℕ, suc, ◌+◌, ◌*◌, ◌/◌, ◌%◌, ◌^◌, ◌≤◌, ◌<◌}
+use native.Mathlib.Nat.{mul-le-mul_right, add-zero, div-one, mod-lt, div-add-mod'}
 use native.Mathlib.Omega.{arith}
-use lib.Dec.{eqb, ltb, lit<, lit≤}
-use lib.Pow.{field, mod-mod-pow, mod-pow-add, shr-shr, shr_lt, pow_pos}
+use lib.Dec.{eqb, lit<}
+use lib.Pow.{field, mod-mod-pow, mod-pow-add, shr-shr, shr_lt}
 use lib.Arith.{digits_div, digits_mod}
 use borrow.Author.Tests.{eq-eqb, ne_eqb, eqb-true, lt-ltb, le-ltb}
 use Rattle.meaning.specs.Decimal.{Decimal, InRange}
 use Rattle.meaning.specs.Decimal.Decimal.{nan, infinity, finite}
 use Rattle.meaning.specs.Layout.{or_zero, decode, encode, bit_of}
-use Rattle.meaning.specs.Bits.{bits, bit, special, second, decode_bits, canonical}
+use Rattle.meaning.specs.Bits.{bits, bit, second, decode_bits, canonical}
 use Rattle.meaning.specs.Promises.{TwoAccountsAgree, DecodesWhatWasEncoded, EncodesExactlyTheCanonical}
 use Rattle.meaning.proofs.Numbers.{le_or, eq_or}
 

@@ -1,24 +1,20 @@
 -- Steps 1 to 6 on a text by the grammar, and demand 3.
-use mathlib.Core.Path.{◌≡◌, refl, sym, ap, ◌∙◌, subst}
-use mathlib.Core.Logic.{◌⊎◌, inl, inr, ⊎_elim}
-use mathlib.Core.Bool.{Bool, true, false, cond, ◌&&◌}
+use mathlib.Core.Path.{◌≡◌, refl, sym, ap, ◌∙◌}
+use mathlib.Core.Logic.{inl, inr, ⊎_elim}
+use mathlib.Core.Bool.{Bool, true, false}
 use mathlib.Core.List.{List, [], ◌∷◌, ◌++◌, map, append_assoc, append-nil}
-use Prim.Native.Nat.{ℕ, zero, suc, ◌+◌, ◌-◌, ◌*◌, ◌^◌, ◌≤◌, ◌<◌}
+use Prim.Native.Nat.{ℕ, ◌+◌, ◌-◌, ◌≤◌, ◌<◌}
 use native.Mathlib.Omega.{arith}
-use lib.Dec.{eqb, leb, ltb}
 use lib.ListN.{length, drop, length-append}
 use borrow.Author.Tests.{le-leb, lt-leb, lt-ltb, ne_eqb}
-use Rattle.meaning.specs.Refusals.{Refusal}
-use Rattle.meaning.specs.Refusals.Refusal.{overflow, inexact_rounding}
-use Rattle.meaning.specs.Reading.{Reading, Located, bytes, lower, is_digit, same, number, all_digits, decimal_part, before, from, fraction, some_digits, origin, exponent, upward, downward, strip_zeros, step2, step3, step4, step5, step6, step7, read_at, read_text}
-use Rattle.meaning.specs.Reading.Reading.{refused, accepted}
-use Rattle.meaning.specs.Reading.Written.{written, wrong}
+use Rattle.meaning.specs.Reading.{Located, bytes, lower, is_digit, same, number, all_digits, decimal_part, before, from, fraction, some_digits, origin, exponent, upward, downward, strip_zeros, step2, step3, step4, step5, step6, step7, read_at, read_text}
+use Rattle.meaning.specs.Reading.Written.{written}
 use Rattle.meaning.specs.Grammar.{Sign, Fraction, Power, FiniteText, WrittenE, Grammatical, sign_text, negative, fraction_text, after, letter, power_text, text_of, digits_of, whole_of}
 use Rattle.meaning.specs.Promises.{Demand3, RefusedOnlyByValue}
 use Rattle.meaning.specs.Grammar.Sign.{none, plus, minus}
 use Rattle.meaning.specs.Grammar.Fraction.{no_point, point}
 use Rattle.meaning.specs.Grammar.Power.{no_power, power}
-use Rattle.meaning.proofs.Numbers.{both, both_of, byte_digit, digits_parts, strip_leading, strip_digits, strip_number}
+use Rattle.meaning.proofs.Numbers.{both, byte_digit, digits_parts, strip_leading, strip_digits, strip_number}
 use Rattle.meaning.proofs.Stored.{Outcome, seven}
 
 -- ---- bytes from `.` to `9`

@@ -1,17 +1,17 @@
 -- Laws of `number`, `all_digits`, `all_zeros` and `strip_zeros`.
-use mathlib.Core.Path.{◌≡◌, refl, sym, ap, ◌∙◌, subst}
+use mathlib.Core.Path.{◌≡◌, refl, sym, ap, ◌∙◌}
 use mathlib.Core.Logic.{◌⊎◌, inl, inr, ⊎_elim}
 use mathlib.Core.Bool.{Bool, true, false, ◌&&◌, ◌||◌, cond, true≢false}
 use mathlib.Core.List.{List, [], ◌∷◌, ◌++◌}
-use Prim.Native.Nat.{ℕ, zero, suc, ◌+◌, ◌-◌, ◌*◌, ◌^◌, ◌%◌, ◌≤◌, ◌<◌, zero-le}
-use native.Mathlib.Nat.{add-zero, zero-add, add-mul, zero-mul, mul_assoc, mul_comm, pow-succ', pow-zero, mul-one, mul-le-mul_right, one-mul, le_trans, le-add_right, mul-mod_left, mod-eq_of_lt, one-le-pow, pow-le-pow_right}
+use Prim.Native.Nat.{ℕ, zero, suc, ◌+◌, ◌-◌, ◌*◌, ◌^◌, ◌%◌, ◌≤◌, ◌<◌}
+use native.Mathlib.Nat.{add-zero, zero-add, add-mul, zero-mul, mul_assoc, pow-succ', pow-zero, mul-one, mul-le-mul_right, one-mul, le_trans, le-add_right, mul-mod_left, one-le-pow, pow-le-pow_right}
 use native.Mathlib.Omega.{arith}
 use native.Mathlib.Decide.{dec_le}
 use lib.Arith.{digits_lt, digits_mod}
 use lib.Pow.{pow-add}
 use lib.Dec.{eqb, leb}
-use lib.ListN.{length, take, drop, replicate, take-append-drop, length-append}
-use borrow.Author.Tests.{eqb-true, eqb-false, eq-eqb, ne_eqb, leb-true, leb-false, le-leb, lt-leb}
+use lib.ListN.{length, take, drop, replicate, take-append-drop}
+use borrow.Author.Tests.{eqb-true, eqb-false, eq-eqb, ne_eqb, leb-true}
 use Rattle.meaning.specs.Reading.{number, all_digits, all_zeros, strip_zeros, is_digit, holds}
 
 -- ---- truth values

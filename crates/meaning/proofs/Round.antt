@@ -1,26 +1,24 @@
 -- Writing a value and reading it again gives the value.
-use mathlib.Core.Path.{◌≡◌, refl, sym, ap, ◌∙◌}
-use mathlib.Core.Logic.{◌⊎◌, inl, inr, ⊎_elim}
-use mathlib.Core.Bool.{Bool, true, false, cond}
+use mathlib.Core.Path.{◌≡◌, refl, sym, ◌∙◌}
+use mathlib.Core.Logic.{inl, inr, ⊎_elim}
+use mathlib.Core.Bool.{Bool, true, false}
 use mathlib.Core.List.{List, [], ◌∷◌, ◌++◌, append-nil}
-use Prim.Native.Nat.{ℕ, ◌+◌, ◌-◌, ◌*◌, ◌^◌, ◌≤◌, ◌<◌, min}
+use Prim.Native.Nat.{ℕ, ◌+◌, ◌-◌, ◌^◌, ◌≤◌, ◌<◌, min}
 use native.Mathlib.Nat.{pow-zero, mul-one, sub_self, zero-mul, zero-add, lt_of_lt_of_le}
 use native.Mathlib.Omega.{arith}
-use lib.Dec.{eqb, leb, ltb, lit≤}
+use lib.Dec.{lit≤}
 use lib.ListN.{length, take, drop, replicate, length-append, length-drop, length-replicate, take-append-drop}
 use lib.Seq.{take_all}
 use borrow.Author.Tests.{le-leb, lt-leb, lt-ltb, le-ltb, eq-eqb, ne_eqb}
-use Rattle.meaning.specs.Decimal.{Decimal, InRange}
 use Rattle.meaning.specs.Decimal.Decimal.{nan, infinity, finite}
-use Rattle.meaning.specs.Reading
 use Rattle.meaning.specs.Reading.{Reading, number, all_digits, origin, low, high, bytes, read_text, read_at, step2, same}
-use Rattle.meaning.specs.Reading.Reading.{refused, accepted}
+use Rattle.meaning.specs.Reading.Reading.{accepted}
 use Rattle.meaning.specs.Writing.{decimal, exponent_text, exponential, plain, magnitude, signed, write_text}
-use Rattle.meaning.specs.Grammar.{Sign, Fraction, Power, FiniteText, WrittenE, Grammatical, Stores, Storable, Kept, SameValue, sign_text, negative, fraction_text, after, power_text, text_of}
+use Rattle.meaning.specs.Grammar.{Sign, Fraction, Power, FiniteText, WrittenE, Stores, SameValue, sign_text, negative, fraction_text, after, power_text}
 use Rattle.meaning.specs.Grammar.Sign.{none, plus, minus}
 use Rattle.meaning.specs.Grammar.Fraction.{no_point, point}
 use Rattle.meaning.specs.Grammar.Power.{no_power, power}
-use Rattle.meaning.specs.Promises.{ReadsWhatWasWritten, plain_nan}
+use Rattle.meaning.specs.Promises.{ReadsWhatWasWritten}
 use Rattle.meaning.proofs.Numbers.{le_or, digits_append, digits_zeros, zeros_zeros, number_cons, number_split, zeros_number}
 use Rattle.meaning.proofs.Digits.{decimal_all, decimal-number, decimal_some, few}
 use Rattle.meaning.proofs.Stored.{Outcome, range}

@@ -3,15 +3,15 @@ use mathlib.Core.Path.{◌≡◌, refl, sym, ap, ◌∙◌, subst}
 use mathlib.Core.Logic.{◌⊎◌, inl, inr, ⊎_elim}
 use mathlib.Core.Bool.{Bool, true, false, cond, true≢false}
 use mathlib.Core.List.{List, [], ◌∷◌, ◌++◌}
-use Prim.Native.Nat.{ℕ, zero, suc, ◌+◌, ◌-◌, ◌*◌, ◌^◌, ◌≤◌, ◌<◌, min, max, zero-le}
-use native.Mathlib.Nat.{add-zero, zero-add, mul_assoc, mul_comm, mul-one, mul-le-mul_left, mul-le-mul_right, mul-le-mul, mul-lt-mul_of_pos_right, le_trans, lt_of_lt_of_le, lt_of_le_of_lt, pow-zero, sub_self, eq_of_mul-eq-mul_right, le_of_mul-le-mul_right, zero-mul, one-mul, le-mul_of_pos_right}
+use Prim.Native.Nat.{ℕ, ◌+◌, ◌-◌, ◌*◌, ◌^◌, ◌≤◌, ◌<◌, min, max}
+use native.Mathlib.Nat.{add-zero, mul_assoc, mul-one, mul-le-mul_right, mul-le-mul, mul-lt-mul_of_pos_right, le_trans, lt_of_lt_of_le, pow-zero, sub_self, eq_of_mul-eq-mul_right, le_of_mul-le-mul_right, zero-mul, one-mul, le-mul_of_pos_right}
 use native.Mathlib.Omega.{arith}
 use lib.Pow.{pow-add}
 use lib.ListN.{length, take, drop, replicate, take-append-drop, length-append, length-replicate, length-take, length-drop}
 use borrow.Author.Tests.{le-leb, lt-leb}
-use Rattle.meaning.specs.Reading.{Reading, refused_at, number, is_digit, all_digits, all_zeros, low, high, holds, kept, lost, step7, step8, step9, step10, step11}
+use Rattle.meaning.specs.Reading.{Reading, refused_at, number, is_digit, all_digits, all_zeros, low, high, kept, lost, step7, step8, step9, step10, step11}
 use Rattle.meaning.specs.Refusals.Refusal.{overflow, inexact_rounding}
-use Rattle.meaning.specs.Decimal.Decimal.{nan, infinity, finite}
+use Rattle.meaning.specs.Decimal.Decimal.{finite}
 use Rattle.meaning.specs.Reading.Reading.{refused, accepted}
 use Rattle.meaning.specs.Grammar.{Stores, Storable, Kept, SameValue, distance}
 use Rattle.meaning.proofs.Numbers.{both, le_or, pow_pos, pow-le, digits_append, digits_split, digits_zeros, zeros_zeros, no_point, number_split, number_lt, number_ge, zeros_number, multiple_zeros, Leading, byte_digit}

@@ -1,5 +1,5 @@
 -- The 128 bits once more, as document 01 counts them under 'The 128 bits': bit 0 is the highest, bit 127 the lowest.
-use Rattle.std.specs.Prelude.{ℕ, ◌+◌, ◌-◌, ◌*◌, ◌/◌, ◌%◌, ◌^◌, Bool, true, false, cond, not, ◌&&◌, eqb, ltb}
+use Rattle.std.specs.Prelude.{ℕ, ◌+◌, ◌-◌, ◌*◌, ◌/◌, ◌%◌, ◌^◌, Bool, false, cond, not, ◌&&◌, eqb, ltb}
 use Rattle.meaning.specs.Decimal.{Decimal}
 use Rattle.meaning.specs.Decimal.Decimal.{nan, infinity, finite}
 use Rattle.meaning.specs.Layout.{or_zero, encode}

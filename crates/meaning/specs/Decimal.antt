@@ -1,5 +1,5 @@
 -- The values of decimal128: IEEE 754-2008, 3.3 and 3.5.2.
-use Rattle.std.specs.Prelude.{ℕ, ◌+◌, ◌-◌, ◌*◌, ◌^◌, ◌≤◌, ◌<◌, Bool, true, false}
+use Rattle.std.specs.Prelude.{ℕ, ◌^◌, ◌≤◌, ◌<◌, Bool}
 
 -- the first Bool says whether the sign is set
 pub data Decimal : Type 0 where

@@ -3,7 +3,7 @@ use Rattle.std.specs.Prelude.{ℕ, ◌+◌, ◌-◌, ◌*◌, ◌^◌, ◌≤◌
 use Rattle.meaning.specs.Decimal.{Decimal}
 use Rattle.meaning.specs.Decimal.Decimal.{nan, infinity, finite}
 use Rattle.meaning.specs.Reading.{Reading, bytes, lower, all_digits, number, origin, low, high}
-use Rattle.meaning.specs.Reading.Reading.{refused, accepted}
+use Rattle.meaning.specs.Reading.Reading.{accepted}
 
 -- ---- a text as its parts
 

@@ -1,5 +1,5 @@
 -- The promises that are about the definitions alone, each as a statement. Where each is proved: docs/PROMISES.md.
-use Rattle.std.specs.Prelude.{ℕ, ◌-◌, ◌^◌, ◌≤◌, ◌<◌, ◌≡◌, ◌⊎◌, ◌↔◌, Bool, true, false, ◌||◌, List, [], ◌∷◌, ◌++◌, map, eqb, length, drop, get_or}
+use Rattle.std.specs.Prelude.{ℕ, ◌-◌, ◌^◌, ◌≤◌, ◌<◌, ◌≡◌, ◌⊎◌, ◌↔◌, true, false, ◌||◌, List, [], ◌∷◌, ◌++◌, map, eqb, length, drop, get_or}
 use Rattle.std.proofs.Math.IntN.ℤ.{pos, negsuc}
 use Rattle.meaning.specs.Refusals.{Refusal, number_of}
 use Rattle.meaning.specs.Refusals.Refusal.{empty_exponent, invalid_exponent, invalid_coefficient, overflow, underflow, inexact_rounding, unparseable, malformed_bytes, no_room, line_too_long, not_ordered}
@@ -7,7 +7,7 @@ use Rattle.meaning.specs.Decimal.{Decimal, InRange}
 use Rattle.meaning.specs.Decimal.Decimal.{nan, infinity, finite}
 use Rattle.meaning.specs.Layout.{stored, bytes_of, decode, encode}
 use Rattle.meaning.specs.Bits.{decode_bits, canonical, comes_back_as}
-use Rattle.meaning.specs.Reading.{Reading, is_digit, lower, read_at, read_text}
+use Rattle.meaning.specs.Reading.{is_digit, lower, read_at, read_text}
 use Rattle.meaning.specs.Reading.Reading.{refused, accepted}
 use Rattle.meaning.specs.Writing.{write_text, debug_text}
 use Rattle.meaning.specs.Answers.{number_given, bytes_given}

@@ -1,5 +1,5 @@
 -- The thirteen starred rows of document 01, 'Cases at the edges', as one table.
-use Rattle.std.specs.Prelude.{ℕ, ◌^◌, ◌≡◌, Bool, true, false, List, [], ◌∷◌, map}
+use Rattle.std.specs.Prelude.{ℕ, ◌^◌, true, false, List, [], ◌∷◌}
 use Prim.Native.String.{String}
 use Rattle.meaning.specs.Refusals.Refusal.{invalid_coefficient, overflow, inexact_rounding, unparseable, empty_exponent}
 use Rattle.meaning.specs.Decimal.Decimal.{finite}

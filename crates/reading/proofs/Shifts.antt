@@ -1,6 +1,6 @@
 -- Steps 3 to 6 of a text whose decimal part was scanned.
 use mathlib.Core.Path.{◌≡◌, refl, sym, ap, ◌∙◌}
-use mathlib.Core.Logic.{◌⊎◌, inl, inr, ⊎_elim}
+use mathlib.Core.Logic.{inl, inr, ⊎_elim}
 use mathlib.Core.Bool.{Bool, true, false, cond}
 use mathlib.Core.List.{List, [], ◌∷◌, ◌++◌, map, append-nil}
 use Prim.Native.Nat.{ℕ, suc, ◌+◌, ◌-◌, ◌^◌, ◌≤◌, ◌<◌}
@@ -17,7 +17,7 @@ use Rattle.meaning.specs.Reading.Written.{written, wrong}
 use Rattle.limbs.specs.declared.wide.Shift.{Shift}
 use Rattle.limbs.specs.Wide.{Stands, Lowered}
 use Rattle.reading.specs.declared.scan.Spans.{Spans}
-use Rattle.reading.specs.Scan.{is_plain, decimals, points, Scanned}
+use Rattle.reading.specs.Scan.{is_plain, decimals, Scanned}
 use Rattle.reading.specs.Run.{run}
 use Rattle.reading.specs.Parted.{behind, place_for}
 use Rattle.reading.specs.Split.{wrong_for, Shifted}

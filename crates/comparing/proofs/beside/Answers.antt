@@ -1,4 +1,3 @@
-use borrow.Author.Rules.{rules}
 use mathlib.Core.Path.{sym, ◌∙◌}
 use Rattle.comparing.proofs.Signs.{infinite_kind, second_nan, to_infinity}
 use Rattle.comparing.proofs.beside.Goals as goal

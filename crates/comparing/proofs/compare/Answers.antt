@@ -1,7 +1,5 @@
-use borrow.Author.Rules.{rules}
-use borrow.Author.Tests.{not-true, not-false}
 use mathlib.Core.Path.{sym, ◌∙◌}
-use Rattle.comparing.proofs.Signs.{of_finite, stored-fields, stored_same, stored_ranged, finite_ranged}
+use Rattle.comparing.proofs.Signs.{of_finite, stored-fields, stored_ranged, finite_ranged}
 use Rattle.comparing.proofs.compare.Goals as goal
 
 pub finite-requires : goal.finite-requires

@@ -1,5 +1,4 @@
 use borrow.Author.Rules.{rules}
-use borrow.Author.Tests.{not-true}
 use Rattle.limbs.specs.Value.{value}
 use Rattle.comparing.proofs.Orders.{is_some, height_fits, height_less, height_greater}
 use Rattle.comparing.proofs.heights.Goals as goal

@@ -1,4 +1,3 @@
-use borrow.Author.Rules.{rules}
 use mathlib.Core.Path.{sym, ◌∙◌}
 use Rattle.comparing.proofs.Signs.{first_nan, equals_itself}
 use Rattle.comparing.proofs.itself.Goals as goal

@@ -1,8 +1,5 @@
-use borrow.Author.Rules.{rules}
-use mathlib.Core.Path.{◌≡◌, refl, ◌∙◌}
-use Prim.Native.Nat.{◌*◌, ◌^◌}
 use Rattle.limbs.specs.Value.{value}
-use Rattle.comparing.proofs.Orders.{is_none, is_some, none_raised, out_of_reach, nine_less, over_nine, over_last, last_raised, carries, held}
+use Rattle.comparing.proofs.Orders.{is_some, out_of_reach, nine_less, over_nine, carries, held}
 use Rattle.comparing.proofs.raised.Goals as goal
 
 pub returns-then-d-gt33 : goal.returns-then-d-gt33

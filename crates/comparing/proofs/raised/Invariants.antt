@@ -1,8 +1,6 @@
-use borrow.Author.Rules.{rules}
-use mathlib.Core.Path.{◌≡◌, refl, ◌∙◌}
+use mathlib.Core.Path.{◌≡◌}
 use Prim.Native.Nat.{◌*◌, ◌^◌}
 use Rattle.limbs.specs.Value.{value}
-use Rattle.comparing.proofs.Orders.{is_none, is_some, none_raised, out_of_reach, nine_less, over_nine, over_last, last_raised, carries, held}
 use Rattle.comparing.proofs.raised.Given as goal
 
 abbrev pub invariant-loop-left : goal.invariant-loop-left

@@ -1,4 +1,3 @@
-use borrow.Author.Rules.{rules}
 use mathlib.Core.Path.{sym, ◌∙◌}
 use Rattle.comparing.proofs.Signs.{agree, differ, infinite_kind, first_nan, second_nan, from_infinity, one_infinity, two_infinities}
 use Rattle.comparing.proofs.special.Goals as goal

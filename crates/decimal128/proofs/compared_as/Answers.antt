@@ -1,4 +1,3 @@
-use borrow.Author.Rules.{rules}
 use Rattle.meaning.specs.Refusals.{number_of}
 use Rattle.meaning.specs.Order.{order_given, refusal_given}
 use Rattle.decimal128.proofs.compared_as.Goals as goal

@@ -1,6 +1,5 @@
 use Rattle.decimal128.proofs.Answers.{answer-refused, answer-accepted}
 use Rattle.layout.specs.Unpacked.{meant}
-use borrow.Author.Rules.{rules}
 use Rattle.decimal128.proofs.read.Goals as goal
 
 pub returns-then-number-ne0 : goal.returns-then-number-ne0

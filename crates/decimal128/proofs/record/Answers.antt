@@ -2,7 +2,6 @@ use mathlib.Core.Path.{sym, ap}
 use Rattle.meaning.specs.Stream.{record_text}
 use Rattle.decimal128.proofs.Laws.{puts_same}
 use Rattle.decimal128.proofs.Answers.{one-digit, record-refused, accepted-is}
-use borrow.Author.Rules.{rules}
 use Rattle.decimal128.proofs.record.Goals as goal
 
 pub refused-requires : goal.refused-requires

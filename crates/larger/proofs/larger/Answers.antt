@@ -1,4 +1,3 @@
-use borrow.Author.Rules.{rules}
 use mathlib.Core.Path.{◌∙◌}
 use Rattle.larger.proofs.Choosing.{first_refused, second_refused, by_relation, picks}
 use Rattle.larger.proofs.larger.Goals as goal

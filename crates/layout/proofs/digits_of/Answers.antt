@@ -4,7 +4,6 @@ use Rattle.layout.specs.Unpacked.{said, said_by, digits_of}
 use Rattle.layout.specs.declared.Kind.{Kind}
 use Rattle.layout.specs.declared.Fields.{Fields}
 use Rattle.layout.proofs.Laws.{finite_range}
-use borrow.Author.Rules.{rules}
 use Rattle.layout.proofs.digits_of.Goals as goal
 
 by_kind : (f : Fields) {k : Kind} → f.kind ≡ k → digits_of (said_by k f.negative f.exponent (value f.coefficient)) ≡ digits_of (said f)

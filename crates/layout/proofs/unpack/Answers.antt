@@ -2,7 +2,6 @@ use mathlib.Core.Path.{sym, subst}
 use Rattle.meaning.specs.Decimal.{InRange}
 use Rattle.meaning.proofs.Fields.{decodes_in_range}
 use Rattle.layout.specs.Unpacked.{meant}
-use borrow.Author.Rules.{rules}
 use Rattle.layout.proofs.unpack.Goals as goal
 
 pub digits_of-n-requires : goal.digits_of-n-requires

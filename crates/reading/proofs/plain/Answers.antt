@@ -3,7 +3,6 @@ use mathlib.Core.Bool.{Bool}
 use Prim.Native.Nat.{ℕ, ◌+◌, ◌-◌, ◌≤◌}
 use native.Mathlib.Omega.{arith}
 use lib.ListN.{length}
-use borrow.Author.Rules.{rules}
 use Rattle.meaning.specs.Reading.{accepted_as, origin, low, number}
 use Rattle.meaning.specs.Decimal.Decimal.{finite}
 use Rattle.reading.specs.declared.answer.Answer.{Answer}

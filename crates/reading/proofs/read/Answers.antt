@@ -3,7 +3,6 @@ use mathlib.Core.List.{List}
 use Prim.Native.Nat.{ℕ, ◌<◌}
 use native.Mathlib.Omega.{arith}
 use lib.ListN.{length}
-use borrow.Author.Rules.{rules}
 use Rattle.reading.specs.Told.{named}
 use Rattle.reading.proofs.Letters.{read_empty, read_start, start_within}
 use Rattle.reading.proofs.Where.{sign_is}

@@ -2,9 +2,8 @@ use mathlib.Core.Path.{◌≡◌, sym, ◌∙◌}
 use Prim.Native.Nat.{◌+◌, ◌^◌, ◌≤◌, ◌<◌}
 use native.Mathlib.Omega.{arith}
 use lib.ListN.{length, get_or}
-use borrow.Author.Rules.{rules}
 use Rattle.meaning.specs.Reading.{lower}
-use Rattle.reading.proofs.Points.{stop_low, stop_within}
+use Rattle.reading.proofs.Points.{stop_within}
 use Rattle.reading.proofs.Shifts.{end-wrong, end-right, other-wrong, split-empty, split-wrong, split-exponent}
 use Rattle.reading.proofs.shift.Goals as goal
 

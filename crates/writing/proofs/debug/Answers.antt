@@ -1,5 +1,5 @@
 use mathlib.Core.Path.{◌≡◌}
-use lib.ListN.{length, length-set}
+use lib.ListN.{length}
 use borrow.Author.Rules.{rules}
 use Rattle.meaning.specs.Reading.{bytes}
 use Rattle.meaning.specs.Writing.{debug_text}

@@ -2,8 +2,6 @@ use mathlib.Core.Logic.{◌⊎◌, inl, inr, ⊎_elim}
 use Prim.Native.Nat.{◌+◌, ◌<◌}
 use native.Mathlib.Omega.{arith}
 use lib.ListN.{length}
-use borrow.Author.Tests.{leb-true, leb-false}
-use borrow.Author.Rules.{rules}
 use Rattle.limbs.specs.Value.{value}
 use Rattle.meaning.specs.Writing.{decimal}
 use Rattle.writing.proofs.Texts.{magnitude-plain, magnitude_power}

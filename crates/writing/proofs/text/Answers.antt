@@ -1,5 +1,4 @@
 use mathlib.Core.Path.{refl}
-use borrow.Author.Rules.{rules}
 use Rattle.writing.proofs.Puts.{no_room, room}
 use Rattle.writing.proofs.text.Goals as goal
 

@@ -1,4 +1,3 @@
-use borrow.Author.Rules.{rules}
 use Rattle.meaning.specs.Reading.{bytes}
 use Rattle.writing.proofs.Values.{text_nan, text_infinity, text_finite, sized_finite}
 use Rattle.writing.proofs.write.Goals as goal

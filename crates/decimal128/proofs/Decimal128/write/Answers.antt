@@ -1,10 +1,6 @@
-use mathlib.Core.Path.{ap}
-use Rattle.meaning.specs.Writing.{write_text}
 use mathlib.Core.Path.{sym, subst}
 use Rattle.meaning.specs.Decimal.{Decimal, InRange}
 use Rattle.meaning.proofs.Fields.{decodes_in_range}
-use Rattle.decimal128.proofs.Laws.{puts_same}
-use borrow.Author.Rules.{rules}
 use Rattle.decimal128.proofs.Decimal128.write.Goals as goal
 
 pub write-requires : goal.write-requires

@@ -1,5 +1,4 @@
 use Rattle.meaning.specs.Refusals.{number_of}
-use borrow.Author.Rules.{rules}
 use Rattle.decimal128.proofs.c.number_of.Goals as goal
 
 pub returns-in-NoRoom : goal.returns-in-NoRoom

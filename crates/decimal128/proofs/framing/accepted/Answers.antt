@@ -1,12 +1,11 @@
 use mathlib.Core.List.{List}
-use Prim.Native.Nat.{ℕ, ◌+◌, ◌≤◌}
+use Prim.Native.Nat.{ℕ}
 use Rattle.meaning.specs.Reading.{accepted_as}
 use Rattle.meaning.specs.Stream.{record_text}
 use Rattle.writing.specs.declared.Put.TheVariants.{NoRoom}
 use Rattle.writing.specs.Put.{Puts}
 use mathlib.Core.Path.{sym, subst}
 use native.Mathlib.Omega.{arith}
-use lib.ListN.{length, length-set}
 use Rattle.layout.specs.Unpacked.{meant}
 use Rattle.decimal128.proofs.Frames.{was_put, had_no_room, record_none, record_room}
 use borrow.Author.Rules.{rules}

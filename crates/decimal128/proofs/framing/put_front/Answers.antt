@@ -1,5 +1,3 @@
-use native.Mathlib.Omega.{arith}
-use lib.ListN.{length, length-set}
 use Rattle.decimal128.proofs.Frames.{front_put}
 use borrow.Author.Rules.{rules}
 use Rattle.decimal128.proofs.framing.put_front.Goals as goal

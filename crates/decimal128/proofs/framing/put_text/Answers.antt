@@ -2,7 +2,6 @@ use native.Mathlib.Omega.{arith}
 use Prim.Native.Nat.{◌-◌}
 use lib.ListN.{length}
 use Rattle.decimal128.proofs.Frames.{text_in}
-use borrow.Author.Rules.{rules}
 use Rattle.decimal128.proofs.framing.put_text.Goals as goal
 
 pub returns : goal.returns

@@ -1,8 +1,7 @@
 use mathlib.Core.Path.{◌≡◌, ap, ◌∙◌}
 use Prim.Native.Nat.{ℕ, ◌^◌, ◌<◌}
 use native.Mathlib.Omega.{arith}
-use lib.ListN.{length, length-set}
-use borrow.Author.Rules.{rules}
+use lib.ListN.{length}
 use Rattle.limbs.specs.Value.{value}
 use Rattle.meaning.specs.Writing.{decimal}
 use Rattle.writing.specs.Pieces.{Sized}

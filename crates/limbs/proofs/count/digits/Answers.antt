@@ -1,11 +1,8 @@
-use borrow.Author.Rules.{rules}
 use mathlib.Core.Path.{◌≡◌, ◌∙◌}
-use Prim.Native.Nat.{◌^◌}
-use native.Mathlib.Nat.{mod-eq_of_lt, le_trans, lt_of_lt_of_le}
-use lib.Dec.{lit<, lit≤}
+use native.Mathlib.Nat.{mod-eq_of_lt}
 use Rattle.limbs.specs.Value.{value}
-use Rattle.limbs.proofs.Laws.{is_below, is_not_below}
-use Rattle.limbs.proofs.Counting.{counts_decimal, four}
+use Rattle.limbs.proofs.Laws.{is_below}
+use Rattle.limbs.proofs.Counting.{counts_decimal}
 use Rattle.limbs.proofs.count.digits.Goals as goal
 
 pub returns-then-fits_u64 : goal.returns-then-fits_u64

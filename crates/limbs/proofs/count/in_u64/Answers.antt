@@ -1,4 +1,3 @@
-use borrow.Author.Rules.{rules}
 use Rattle.limbs.proofs.Counting.{counts_more}
 use Rattle.limbs.proofs.count.in_u64.Goals as goal
 

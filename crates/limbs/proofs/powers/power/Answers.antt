@@ -1,5 +1,4 @@
 -- `powers::power` meets its contract: the row is one of the table, whose rule is proved once.
-use borrow.Author.Rules.{rules}
 use Rattle.limbs.specs.Powers.{table}
 use Rattle.limbs.proofs.Rows.{power_of}
 use Rattle.limbs.proofs.powers.power.Goals as goal

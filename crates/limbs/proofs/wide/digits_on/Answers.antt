@@ -1,18 +1,13 @@
 -- A turn reads one digit, and leaves the rest to be read.
-use borrow.Author.Rules.{rules}
-use borrow.Author.Tests.{not-true, not-false}
 use mathlib.Core.Path.{◌≡◌, refl, sym, ◌∙◌}
 use mathlib.Core.Bool.{true}
 use native.Mathlib.Omega.{arith}
-use Prim.Native.Nat.{◌-◌, ◌^◌}
-use native.Mathlib.Nat.{lt_of_lt_of_le}
-use lib.Dec.{lit≤}
-use lib.ListN.{length, get_or}
+use Prim.Native.Nat.{◌^◌}
+use lib.ListN.{get_or}
 use Rattle.meaning.specs.Reading.{is_digit}
-use Rattle.meaning.proofs.Numbers.{byte_digit}
 use Rattle.limbs.specs.Value.{value}
 use Rattle.limbs.proofs.Laws.{zero_carried, some_carried}
-use Rattle.limbs.proofs.Exponents.{Spelling, spelling_starts, spelling_goes_on, no_digit_at, too_large, spells_all, digit_small}
+use Rattle.limbs.proofs.Exponents.{spelling_goes_on, no_digit_at, too_large, spells_all}
 use Rattle.limbs.proofs.wide.digits_on.Goals as goal
 
 pub returns-then-not-is_digit : goal.returns-then-not-is_digit

@@ -1,4 +1,3 @@
-use borrow.Author.Rules.{rules}
 use Rattle.meaning.specs.Refusals.{number_of}
 use Rattle.limbs.proofs.Shifts.{refused_wrong, lowered_written}
 use Rattle.limbs.proofs.wide.exponent_less.Goals as goal

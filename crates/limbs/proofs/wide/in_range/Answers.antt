@@ -1,4 +1,3 @@
-use borrow.Author.Rules.{rules}
 use Rattle.meaning.specs.Reading.{origin}
 use Rattle.limbs.specs.Value.{value}
 use Rattle.limbs.proofs.Exponents.{in_minus, in_plus}

@@ -1,7 +1,5 @@
-use borrow.Author.Rules.{rules}
 use mathlib.Core.Path.{◌≡◌}
 use Prim.Native.Nat.{◌+◌, ◌*◌, ◌^◌, ◌<◌, ◌≤◌}
-use native.Mathlib.Nat.{le_of_lt}
 use Rattle.meaning.specs.Refusals.{number_of}
 use Rattle.limbs.specs.Value.{value}
 use Rattle.limbs.proofs.Laws.{zero_carried, some_carried, is_below, is_not_below}

@@ -1,4 +1,3 @@
-use borrow.Author.Rules.{rules}
 use Rattle.limbs.proofs.Shifts.{place_minus, place_below, place_plus, place_above}
 use Rattle.limbs.proofs.wide.place.Goals as goal
 

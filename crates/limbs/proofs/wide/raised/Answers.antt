@@ -1,4 +1,3 @@
-use borrow.Author.Rules.{rules}
 use Rattle.limbs.proofs.Shifts.{raised_less, raised_past, raised_far, raised_more}
 use Rattle.limbs.proofs.wide.raised.Goals as goal
 

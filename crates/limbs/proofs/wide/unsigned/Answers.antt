@@ -1,4 +1,3 @@
-use borrow.Author.Rules.{rules}
 use borrow.Author.Tests.{not-true, not-false}
 use mathlib.Core.Path.{refl, sym, ◌∙◌}
 use Rattle.limbs.proofs.Exponents.{some_left, none_left, not_written, empty_wrong, bad_wrong, large_wrong, is_written}

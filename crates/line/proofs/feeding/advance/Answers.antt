@@ -1,5 +1,4 @@
 use native.Mathlib.Omega.{arith}
-use borrow.Author.Rules.{rules}
 use Rattle.line.specs.Wanted.{record_for}
 use Rattle.line.proofs.Chunks.{to_end, to_lf, room-left}
 use Rattle.line.proofs.feeding.advance.Goals as goal

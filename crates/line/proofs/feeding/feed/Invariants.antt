@@ -1,13 +1,8 @@
-use mathlib.Core.Logic.{⊎_elim}
-use mathlib.Core.Path.{◌≡◌, refl}
-use Prim.Native.Nat.{◌+◌, ◌≤◌, ◌-◌}
-use native.Mathlib.Omega.{arith}
+use mathlib.Core.Path.{◌≡◌}
+use Prim.Native.Nat.{◌≤◌, ◌-◌}
 use lib.ListN.{length}
-use borrow.Author.Rules.{rules}
-use Rattle.meaning.proofs.Numbers.{le_or}
 use Rattle.line.specs.Feed.{Feeds}
 use Rattle.line.specs.Wanted.{record_for}
-use Rattle.line.proofs.Chunks.{feeds_none, feeds_then, same-room, room-left}
 use Rattle.line.proofs.feeding.feed.Given as goal
 
 abbrev pub invariant-loop-fed : goal.invariant-loop-fed

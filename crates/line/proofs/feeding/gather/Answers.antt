@@ -1,7 +1,6 @@
 use native.Mathlib.Omega.{arith}
 use lib.Seq.{slice, length-slice}
-use borrow.Author.Rules.{rules}
-use Rattle.line.proofs.Chunks.{part_is, held_long, held_over, held_more}
+use Rattle.line.proofs.Chunks.{part_is, held_more}
 use Rattle.line.proofs.feeding.gather.Goals as goal
 
 pub returns : goal.returns

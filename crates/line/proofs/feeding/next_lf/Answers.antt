@@ -1,8 +1,5 @@
-use Prim.Native.Nat.{ℕ, ◌-◌, ◌≤◌}
 use native.Mathlib.Omega.{arith}
-use lib.ListN.{length}
 use borrow.Author.Rules.{rules}
-use Rattle.line.specs.Feed.{NextLf}
 use Rattle.line.proofs.Laws.{lf_here, lf_later}
 use Rattle.line.proofs.feeding.next_lf.Goals as goal
 

@@ -1,9 +1,6 @@
 use Prim.Native.Nat.{ℕ, ◌-◌, ◌≤◌}
-use native.Mathlib.Omega.{arith}
 use lib.ListN.{length}
-use borrow.Author.Rules.{rules}
 use Rattle.line.specs.Feed.{NextLf}
-use Rattle.line.proofs.Laws.{lf_here, lf_later}
 use Rattle.line.proofs.feeding.next_lf.Given as goal
 
 abbrev pub invariant-loop-i : goal.invariant-loop-i

@@ -1,7 +1,4 @@
-use Prim.Native.Nat.{◌-◌}
 use native.Mathlib.Omega.{arith}
-use lib.ListN.{length}
-use borrow.Author.Rules.{rules}
 use Rattle.line.proofs.Chunks.{room-left, same-room}
 use Rattle.line.proofs.program.drain.Goals as goal
 

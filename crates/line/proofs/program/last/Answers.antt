@@ -1,4 +1,3 @@
-use borrow.Author.Rules.{rules}
 use Rattle.line.proofs.Chunks.{finish_room}
 use Rattle.line.proofs.program.last.Goals as goal
 

@@ -1,6 +1,5 @@
 use mathlib.Core.Path.{ap}
 use native.Mathlib.Omega.{arith}
-use borrow.Author.Rules.{rules}
 use Rattle.meaning.specs.Layout.{stored, decode}
 use Rattle.meaning.specs.Writing.{write_text}
 use Rattle.decimal128.specs.declared.Decimal128.{Decimal128}

@@ -1,7 +1,4 @@
-use mathlib.Core.Path.{sym}
 use native.Mathlib.Omega.{arith}
-use lib.Seq.{length-take-le}
-use borrow.Author.Rules.{rules}
 use Rattle.meaning.specs.Stream.{without_cr}
 use Rattle.line.proofs.Ends.{one_off}
 use Rattle.line.proofs.records.held.Goals as goal

@@ -1,5 +1,4 @@
 use native.Mathlib.Omega.{arith}
-use borrow.Author.Rules.{rules}
 use Rattle.meaning.proofs.Records.{record_has_at_most_80}
 use Rattle.line.proofs.Wrote.{wrote_same, put_whole, short_text}
 use Rattle.line.proofs.records.record.Goals as goal

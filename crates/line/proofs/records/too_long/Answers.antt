@@ -1,5 +1,4 @@
 use native.Mathlib.Omega.{arith}
-use borrow.Author.Rules.{rules}
 use Rattle.line.proofs.Wrote.{wrote_same, long_text, other_length}
 use Rattle.line.proofs.records.too_long.Goals as goal
 

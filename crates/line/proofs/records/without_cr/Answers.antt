@@ -1,7 +1,4 @@
-use mathlib.Core.Path.{sym}
 use native.Mathlib.Omega.{arith}
-use lib.Seq.{length-take-le}
-use borrow.Author.Rules.{rules}
 use Rattle.line.proofs.Ends.{cr_off, no_cr, no_byte}
 use Rattle.line.proofs.records.without_cr.Goals as goal
 

@@ -1,7 +1,3 @@
-use mathlib.Core.Path.{◌≡◌}
-use native.Mathlib.Omega.{arith}
-use lib.ListN.{length, length-set}
-use borrow.Author.Rules.{rules}
 use Rattle.line.proofs.Wrote.{record_put}
 use Rattle.line.proofs.stored.accepted.Goals as goal
 

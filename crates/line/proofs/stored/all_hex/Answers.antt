@@ -1,9 +1,6 @@
-use mathlib.Core.Path.{◌≡◌, refl, sym, ◌∙◌}
-use Prim.Native.Nat.{◌≤◌, ◌-◌}
+use mathlib.Core.Path.{sym, ◌∙◌}
 use native.Mathlib.Omega.{arith}
-use lib.ListN.{length, drop}
 use borrow.Author.Rules.{rules}
-use Rattle.meaning.specs.Stream.{all_hex}
 use Rattle.line.proofs.Hex.{hex_here, hex_stops, hex_all}
 use Rattle.line.proofs.stored.all_hex.Goals as goal
 

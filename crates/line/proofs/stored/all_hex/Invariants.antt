@@ -1,10 +1,7 @@
-use mathlib.Core.Path.{◌≡◌, refl, sym, ◌∙◌}
+use mathlib.Core.Path.{◌≡◌}
 use Prim.Native.Nat.{◌≤◌, ◌-◌}
-use native.Mathlib.Omega.{arith}
 use lib.ListN.{length, drop}
-use borrow.Author.Rules.{rules}
 use Rattle.meaning.specs.Stream.{all_hex}
-use Rattle.line.proofs.Hex.{hex_here, hex_stops, hex_all}
 use Rattle.line.proofs.stored.all_hex.Given as goal
 
 abbrev pub invariant-loop-i : goal.invariant-loop-i

@@ -1,4 +1,3 @@
-use borrow.Author.Rules.{rules}
 use Rattle.line.proofs.Wrote.{wrote_same, malformed_is}
 use Rattle.line.proofs.stored.malformed.Goals as goal
 

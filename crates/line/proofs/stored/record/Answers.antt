@@ -1,6 +1,4 @@
 use mathlib.Core.Path.{sym, ap, ◌∙◌}
-use borrow.Author.Tests.{not-true, not-false}
-use borrow.Author.Rules.{rules}
 use Rattle.line.specs.Wrote.{stored_text}
 use Rattle.line.proofs.Wrote.{wrote_same, other_length, no_hex, all_hex_lem}
 use Rattle.line.proofs.stored.record.Goals as goal

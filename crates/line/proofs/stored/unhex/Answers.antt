@@ -1,9 +1,7 @@
-use mathlib.Core.Path.{◌≡◌, refl}
-use Prim.Native.Nat.{◌+◌, ◌*◌, ◌≤◌, ◌-◌}
+use Prim.Native.Nat.{◌+◌, ◌*◌}
 use native.Mathlib.Omega.{arith}
-use lib.ListN.{length-set, length, take}
+use lib.ListN.{length-set}
 use borrow.Author.Rules.{rules}
-use Rattle.meaning.specs.Stream.{unhex}
 use Rattle.line.proofs.Hex.{hex_digit_lem, next_byte, all_bytes}
 use Rattle.line.proofs.stored.unhex.Goals as goal
 

@@ -1,10 +1,7 @@
-use mathlib.Core.Path.{◌≡◌, refl}
-use Prim.Native.Nat.{◌+◌, ◌*◌, ◌≤◌, ◌-◌}
-use native.Mathlib.Omega.{arith}
-use lib.ListN.{length-set, length, take}
-use borrow.Author.Rules.{rules}
+use mathlib.Core.Path.{◌≡◌}
+use Prim.Native.Nat.{◌≤◌, ◌-◌}
+use lib.ListN.{length, take}
 use Rattle.meaning.specs.Stream.{unhex}
-use Rattle.line.proofs.Hex.{hex_digit_lem, next_byte, all_bytes}
 use Rattle.line.proofs.stored.unhex.Given as goal
 
 abbrev pub invariant-loop-i : goal.invariant-loop-i

@@ -1,4 +1,3 @@
-use borrow.Author.Rules.{rules}
 use Rattle.layout.specs.Unpacked.{digits_of}
 use Rattle.limbs.proofs.Counting.{counts_decimal}
 use Rattle.reading.proofs.answer.finite.Goals as goal

@@ -1,5 +1,4 @@
 use mathlib.Core.Path.{refl}
-use borrow.Author.Rules.{rules}
 use Rattle.layout.specs.Unpacked.{digits_of}
 use Rattle.reading.proofs.answer.nan.Goals as goal
 

@@ -1,7 +1,6 @@
 use mathlib.Core.Path.{sym, ap, subst, ◌∙◌}
 use native.Mathlib.Omega.{arith}
 use lib.Dec.{lit≤, lit<}
-use borrow.Author.Rules.{rules}
 use borrow.Author.Tests.{ne_eqb}
 use Rattle.meaning.specs.Decimal.{InRange}
 use Rattle.layout.specs.Unpacked.{meant, digits_of}

@@ -1,7 +1,6 @@
 use mathlib.Core.Path.{◌≡◌, sym, ap, ◌∙◌}
 use native.Mathlib.Omega.{arith}
 use lib.ListN.{length}
-use borrow.Author.Rules.{rules}
 use Rattle.meaning.specs.Reading.{strip_zeros}
 use Rattle.reading.specs.Run.{run}
 use Rattle.reading.proofs.Walk.{length_run}

@@ -1,6 +1,5 @@
 use Prim.Native.Nat.{◌-◌}
 use native.Mathlib.Omega.{arith}
-use borrow.Author.Rules.{rules}
 use Rattle.limbs.proofs.Shifts.{stands_raised}
 use Rattle.reading.specs.Run.{Short}
 use Rattle.reading.proofs.Leading.{strip_counts}

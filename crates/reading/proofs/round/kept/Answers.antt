@@ -3,7 +3,6 @@ use mathlib.Core.Bool.{true}
 use Prim.Native.Nat.{◌+◌, ◌*◌, ◌^◌, ◌<◌}
 use native.Mathlib.Omega.{arith}
 use borrow.Author.Tests.{lt-ltb}
-use borrow.Author.Rules.{rules}
 use Rattle.meaning.specs.Reading.{all_digits}
 use Rattle.meaning.proofs.Numbers.{number_lt, pow_pos}
 use Rattle.limbs.specs.Value.{value}

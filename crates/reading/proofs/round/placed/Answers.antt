@@ -1,9 +1,5 @@
-use mathlib.Core.Path.{◌≡◌, refl}
-use Prim.Native.Nat.{◌+◌, ◌-◌, ◌^◌, ◌≤◌, ◌<◌}
+use mathlib.Core.Path.{refl}
 use native.Mathlib.Omega.{arith}
-use lib.ListN.{length, take}
-use borrow.Author.Rules.{rules}
-use Rattle.reading.specs.Run.{run}
 use Rattle.reading.specs.Told.{named}
 use Rattle.reading.proofs.Leading.{leads_most}
 use Rattle.reading.proofs.Walk.{zeros_not, zeros_only}

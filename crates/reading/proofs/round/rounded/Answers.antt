@@ -1,15 +1,11 @@
-use mathlib.Core.Path.{◌≡◌, sym, ap, subst, ◌∙◌}
-use mathlib.Core.List.{List}
-use Prim.Native.Nat.{ℕ, ◌+◌, ◌-◌, ◌^◌, ◌≤◌, ◌<◌}
+use mathlib.Core.Path.{sym, ap, subst, ◌∙◌}
 use native.Mathlib.Omega.{arith}
 use lib.Dec.{lit<}
-use lib.ListN.{length, take}
-use borrow.Author.Rules.{rules}
-use Rattle.meaning.specs.Reading.{strip_zeros, step7}
+use Rattle.meaning.specs.Reading.{step7}
 use Rattle.meaning.proofs.Numbers.{Leading, strip_leading}
 use Rattle.limbs.proofs.Counting.{zero_counts}
 use Rattle.limbs.proofs.Shifts.{stands_raised}
-use Rattle.reading.specs.Run.{run, Leads}
+use Rattle.reading.specs.Run.{run}
 use Rattle.reading.specs.Told.{named}
 use Rattle.reading.proofs.Walk.{length_run, zeros_not, zeros_only}
 use Rattle.reading.proofs.Points.{stop_low, stop_within, walked, walked_from}

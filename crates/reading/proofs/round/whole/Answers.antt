@@ -1,6 +1,5 @@
 use mathlib.Core.Path.{ap, ◌∙◌}
 use native.Mathlib.Omega.{arith}
-use borrow.Author.Rules.{rules}
 use Rattle.meaning.specs.Reading.{number}
 use Rattle.meaning.proofs.Numbers.{pow_pos}
 use Rattle.reading.proofs.Points.{stop_low, stop_within, short-digits, short-value, short-length}

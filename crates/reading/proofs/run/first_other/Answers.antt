@@ -1,7 +1,4 @@
-use mathlib.Core.Logic.{⊎_elim}
-use Prim.Native.Nat.{◌-◌}
-use borrow.Author.Rules.{rules}
-use Rattle.reading.proofs.Walk.{ZerosAt, zeros_none, zeros_point, zeros_zero, zeros_other, zeros_all}
+use Rattle.reading.proofs.Walk.{zeros_point, zeros_zero, zeros_other, zeros_all}
 use Rattle.reading.proofs.run.first_other.Goals as goal
 use Rattle.reading.proofs.run.first_other.Goals.{then-s-i-ne48+else-i-point, else-s-i-ne48}
 
@@ -14,9 +11,10 @@ loop-i-preserved c =
     let z = c.loop-i.invariant in
     let h = c.loop-i-test.true in
     let l = c.requires.1 in
-    elim c.if-s-i-ne48.branch
-      [ then-s-i-ne48+else-i-point w ↦ zeros_point _ _ _ _ _ z h l w.if-i-point.false
-      | else-s-i-ne48 w ↦ zeros_zero _ _ _ _ _ z h l w.if-s-i-ne48.false ]
+    elim c.if-s-i-ne48.branch [
+      | then-s-i-ne48+else-i-point w ↦ zeros_point _ _ _ _ _ z h l w.if-i-point.false
+      | else-s-i-ne48 w ↦ zeros_zero _ _ _ _ _ z h l w.if-s-i-ne48.false
+    ]
 
 pub returns : goal.returns
 returns c = zeros_all _ _ _ _ _ c.loop-i.invariant c.loop-i-test.false

@@ -1,7 +1,5 @@
-use mathlib.Core.Logic.{⊎_elim}
 use Prim.Native.Nat.{◌-◌}
-use borrow.Author.Rules.{rules}
-use Rattle.reading.proofs.Walk.{ZerosAt, zeros_none, zeros_point, zeros_zero, zeros_other, zeros_all}
+use Rattle.reading.proofs.Walk.{ZerosAt}
 use Rattle.reading.proofs.run.first_other.Given as goal
 
 abbrev pub invariant-loop-i : goal.invariant-loop-i

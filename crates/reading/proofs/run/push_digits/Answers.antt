@@ -4,7 +4,6 @@ use mathlib.Core.List.{List}
 use Prim.Native.Nat.{ℕ, ◌≤◌, ◌<◌}
 use lib.ListN.{length}
 use lib.Seq.{slice}
-use borrow.Author.Rules.{rules}
 use Rattle.meaning.specs.Reading.{number}
 use Rattle.reading.specs.Run.{run}
 use Rattle.reading.proofs.Walk.{run_apart}

@@ -1,8 +1,7 @@
-use Prim.Native.Nat.{ℕ, ◌-◌, ◌≤◌}
+use Prim.Native.Nat.{ℕ, ◌≤◌}
 use native.Mathlib.Omega.{arith}
 use lib.ListN.{get_or}
-use borrow.Author.Rules.{rules}
-use Rattle.reading.proofs.Rows.{FewAt, few_none, few-byte, few-room, few-more, few_end}
+use Rattle.reading.proofs.Rows.{few_none, few-byte, few-room, few-more, few_end}
 use Rattle.reading.proofs.run.push_few.Goals as goal
 
 pub loop-i-init : goal.loop-i-init

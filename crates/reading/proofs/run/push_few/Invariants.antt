@@ -1,8 +1,5 @@
-use Prim.Native.Nat.{ℕ, ◌-◌, ◌≤◌}
-use native.Mathlib.Omega.{arith}
-use lib.ListN.{get_or}
-use borrow.Author.Rules.{rules}
-use Rattle.reading.proofs.Rows.{FewAt, few_none, few-byte, few-room, few-more, few_end}
+use Prim.Native.Nat.{◌-◌}
+use Rattle.reading.proofs.Rows.{FewAt}
 use Rattle.reading.proofs.run.push_few.Given as goal
 
 abbrev pub invariant-loop-i : goal.invariant-loop-i

@@ -1,11 +1,6 @@
-use mathlib.Core.Path.{◌≡◌, refl, sym, ◌∙◌}
-use Prim.Native.Nat.{◌+◌, ◌-◌, ◌≤◌}
+use mathlib.Core.Path.{refl, sym, ◌∙◌}
+use Prim.Native.Nat.{◌+◌, ◌≤◌}
 use native.Mathlib.Omega.{arith}
-use lib.Seq.{slice}
-use borrow.Author.Rules.{rules}
-use Rattle.meaning.specs.Reading.{number}
-use Rattle.limbs.specs.Value.{value}
-use Rattle.reading.specs.Run.{Row}
 use Rattle.reading.proofs.Rows.{row_digits, row_pushed, row_rest, row_same}
 use Rattle.reading.proofs.run.push_row.Goals as goal
 

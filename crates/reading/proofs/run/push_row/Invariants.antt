@@ -1,12 +1,9 @@
-use mathlib.Core.Path.{◌≡◌, refl, sym, ◌∙◌}
-use Prim.Native.Nat.{◌+◌, ◌-◌, ◌≤◌}
-use native.Mathlib.Omega.{arith}
+use mathlib.Core.Path.{◌≡◌}
+use Prim.Native.Nat.{◌-◌, ◌≤◌}
 use lib.Seq.{slice}
-use borrow.Author.Rules.{rules}
 use Rattle.meaning.specs.Reading.{number}
 use Rattle.limbs.specs.Value.{value}
 use Rattle.reading.specs.Run.{Row}
-use Rattle.reading.proofs.Rows.{row_digits, row_pushed, row_rest, row_same}
 use Rattle.reading.proofs.run.push_row.Given as goal
 
 abbrev pub invariant-loop-i : goal.invariant-loop-i

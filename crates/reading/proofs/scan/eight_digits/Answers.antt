@@ -1,4 +1,3 @@
-use native.Mathlib.Omega.{arith}
 use Rattle.reading.proofs.Rows.{eight_test}
 use Rattle.reading.proofs.scan.eight_digits.Goals as goal
 

@@ -1,5 +1,3 @@
-use native.Mathlib.Omega.{arith}
-use borrow.Author.Rules.{rules}
 use Rattle.reading.proofs.Rows.{four_test}
 use Rattle.reading.proofs.scan.four_digits.Goals as goal
 

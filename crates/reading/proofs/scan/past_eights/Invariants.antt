@@ -1,13 +1,9 @@
-use mathlib.Core.Path.{◌≡◌, sym, ◌∙◌}
+use mathlib.Core.Path.{◌≡◌}
 use mathlib.Core.Bool.{true}
-use Prim.Native.Nat.{◌+◌, ◌≤◌, ◌-◌}
-use native.Mathlib.Omega.{arith}
+use Prim.Native.Nat.{◌≤◌, ◌-◌}
 use lib.ListN.{length}
 use lib.Seq.{slice}
-use borrow.Author.Tests.{not-false}
-use borrow.Author.Rules.{rules}
 use Rattle.meaning.specs.Reading.{all_digits}
-use Rattle.reading.proofs.Rows.{row_none, row_on}
 use Rattle.reading.proofs.scan.past_eights.Given as goal
 
 abbrev pub invariant-loop-i : goal.invariant-loop-i

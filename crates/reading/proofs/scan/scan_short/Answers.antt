@@ -1,12 +1,8 @@
 use mathlib.Core.Path.{sym, ◌∙◌}
-use mathlib.Core.Logic.{inl, inr, ⊎_elim}
-use Prim.Native.Nat.{◌-◌}
+use mathlib.Core.Logic.{inl, inr}
 use native.Mathlib.Omega.{arith}
 use native.Mathlib.Nat.{lt_of_lt_of_le}
-use lib.ListN.{length}
-use borrow.Author.Rules.{rules}
 use Rattle.meaning.proofs.Numbers.{byte_digit, pow-le}
-use Rattle.reading.specs.Scan.{Passing, Added}
 use Rattle.reading.proofs.Bytes.{neither}
 use Rattle.reading.proofs.Pass.{passing_none, passing_digit, passing_point, added_none, added_digit, added_point, scanned_short}
 use Rattle.reading.proofs.scan.scan_short.Goals as goal
@@ -32,15 +28,16 @@ pub loop-i-preserved : goal.loop-i-preserved
 loop-i-preserved c =
     let l = c.loop-i in
     let h = c.loop-i-test.true in
-    elim c.if-is_digit.branch
-      [ then-is_digit w ↦
-        let d = sym c.is_digit.ensures ∙ w.if-is_digit.true in
-        let e = w.m-is ∙ w.with_digit-m.ensures in
-        (rw e (passing_digit _ _ _ _ l.invariant.0 h _ d), rw e (added_digit _ _ _ _ l.invariant.1 l.invariant.0.after h d))
+    elim c.if-is_digit.branch [
+      | then-is_digit w ↦
+          let d = sym c.is_digit.ensures ∙ w.if-is_digit.true in
+          let e = w.m-is ∙ w.with_digit-m.ensures in
+          (rw e (passing_digit _ _ _ _ l.invariant.0 h _ d), rw e (added_digit _ _ _ _ l.invariant.1 l.invariant.0.after h d))
       | else-is_digit+else-b-ne46 w ↦
-        let e = w.m-is ∙ w.with_point-m.ensures in
-        let q = w.if-b-ne46.false in
-        (rw e (passing_point _ _ _ _ l.invariant.0 h q), rw e (added_point _ _ _ _ l.invariant.1 l.invariant.0.after h q)) ]
+          let e = w.m-is ∙ w.with_point-m.ensures in
+          let q = w.if-b-ne46.false in
+          (rw e (passing_point _ _ _ _ l.invariant.0 h q), rw e (added_point _ _ _ _ l.invariant.1 l.invariant.0.after h q))
+    ]
 
 pub returns : goal.returns
 returns c = let l = c.loop-i in scanned_short _ _ _ l.invariant.0 (inl c.loop-i-test.false) l.invariant.1

@@ -1,14 +1,6 @@
-use mathlib.Core.Path.{sym, ◌∙◌}
-use mathlib.Core.Logic.{inl, inr, ⊎_elim}
 use Prim.Native.Nat.{◌-◌}
-use native.Mathlib.Omega.{arith}
-use native.Mathlib.Nat.{lt_of_lt_of_le}
 use lib.ListN.{length}
-use borrow.Author.Rules.{rules}
-use Rattle.meaning.proofs.Numbers.{byte_digit, pow-le}
 use Rattle.reading.specs.Scan.{Passing, Added}
-use Rattle.reading.proofs.Bytes.{neither}
-use Rattle.reading.proofs.Pass.{passing_none, passing_digit, passing_point, added_none, added_digit, added_point, scanned_short}
 use Rattle.reading.proofs.scan.scan_short.Given as goal
 
 abbrev pub invariant-loop-i : goal.invariant-loop-i

@@ -1,11 +1,6 @@
-use mathlib.Core.Path.{◌≡◌, refl, sym, ◌∙◌}
-use mathlib.Core.List.{map}
-use Prim.Native.Nat.{◌≤◌, ◌-◌}
+use mathlib.Core.Path.{◌≡◌, sym, ◌∙◌}
 use native.Mathlib.Omega.{arith}
-use lib.ListN.{length, drop}
-use borrow.Author.Rules.{rules}
-use Rattle.meaning.specs.Reading.{lower}
-use Rattle.reading.specs.Scan.{first_at}
+use lib.ListN.{length}
 use Rattle.reading.proofs.Letters.{e_here, e_later, e_none}
 use Rattle.reading.proofs.words.find_e.Goals as goal
 

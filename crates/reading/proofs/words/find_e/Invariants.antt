@@ -1,12 +1,9 @@
-use mathlib.Core.Path.{◌≡◌, refl, sym, ◌∙◌}
+use mathlib.Core.Path.{◌≡◌}
 use mathlib.Core.List.{map}
 use Prim.Native.Nat.{◌≤◌, ◌-◌}
-use native.Mathlib.Omega.{arith}
 use lib.ListN.{length, drop}
-use borrow.Author.Rules.{rules}
 use Rattle.meaning.specs.Reading.{lower}
 use Rattle.reading.specs.Scan.{first_at}
-use Rattle.reading.proofs.Letters.{e_here, e_later, e_none}
 use Rattle.reading.proofs.words.find_e.Given as goal
 
 abbrev pub invariant-loop-i : goal.invariant-loop-i

@@ -1,7 +1,6 @@
 use mathlib.Core.Path.{sym, ap, ◌∙◌}
 use native.Mathlib.Omega.{arith}
 use lib.ListN.{length}
-use borrow.Author.Rules.{rules}
 use Rattle.reading.proofs.Letters.{nan_is, snan-is, infinity-is, inf-is, number_is}
 use Rattle.reading.proofs.Names.{number_some}
 use Rattle.reading.proofs.Split.{wrong_first}

@@ -3,7 +3,6 @@ use mathlib.Core.Path.{◌≡◌, ◌∙◌}
 use native.Mathlib.Omega.{arith}
 use lib.ListN.{length, drop}
 use borrow.Author.Tests.{eq-eqb, ne_eqb}
-use borrow.Author.Rules.{rules}
 use Rattle.meaning.specs.Reading.{lower, from}
 use Rattle.meaning.specs.Refusals.{number_of}
 use Rattle.reading.proofs.Split.{e_length}

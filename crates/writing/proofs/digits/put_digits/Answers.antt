@@ -1,6 +1,5 @@
-use mathlib.Core.Path.{◌≡◌, ◌∙◌}
-use Prim.Native.Nat.{◌^◌, ◌≤◌, ◌<◌}
-use lib.ListN.{get_or}
+use mathlib.Core.Path.{◌∙◌}
+use Prim.Native.Nat.{◌^◌, ◌<◌}
 use borrow.Author.Rules.{rules}
 use Rattle.limbs.specs.Value.{value}
 use Rattle.writing.proofs.Low.{low_all, below_all}

@@ -1,7 +1,4 @@
-use Prim.Native.Nat.{◌<◌}
-use native.Mathlib.Omega.{arith}
-use borrow.Author.Rules.{rules}
-use Rattle.writing.proofs.Low.{before-below, first_put}
+use Rattle.writing.proofs.Low.{first_put}
 use Rattle.writing.proofs.digits.put_few.Goals as goal
 
 pub returns : goal.returns

@@ -1,7 +1,4 @@
-use native.Mathlib.Omega.{arith}
-use lib.ListN.{length-set}
-use borrow.Author.Rules.{rules}
-use Rattle.writing.proofs.Point.{front_in, front_long}
+use Rattle.writing.proofs.Point.{front_in}
 use Rattle.writing.proofs.digits.put_front.Goals as goal
 
 pub returns : goal.returns

@@ -1,10 +1,7 @@
-use mathlib.Core.Path.{◌≡◌, refl, ◌∙◌}
-use Prim.Native.Nat.{◌/◌, ◌^◌, ◌≤◌}
+use mathlib.Core.Path.{refl, ◌∙◌}
 use native.Mathlib.Omega.{arith}
-use lib.ListN.{length, length-set}
+use lib.ListN.{length-set}
 use borrow.Author.Rules.{rules}
-use Rattle.writing.specs.Pieces.{low}
-use Rattle.writing.specs.Written.{written}
 use Rattle.writing.proofs.Low.{turn, tenth, done}
 use Rattle.writing.proofs.digits.put_low.Goals as goal
 

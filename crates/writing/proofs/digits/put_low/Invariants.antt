@@ -1,11 +1,8 @@
-use mathlib.Core.Path.{◌≡◌, refl, ◌∙◌}
+use mathlib.Core.Path.{◌≡◌}
 use Prim.Native.Nat.{◌/◌, ◌^◌, ◌≤◌}
-use native.Mathlib.Omega.{arith}
-use lib.ListN.{length, length-set}
-use borrow.Author.Rules.{rules}
+use lib.ListN.{length}
 use Rattle.writing.specs.Pieces.{low}
 use Rattle.writing.specs.Written.{written}
-use Rattle.writing.proofs.Low.{turn, tenth, done}
 use Rattle.writing.proofs.digits.put_low.Given as goal
 
 abbrev pub invariant-loop-j : goal.invariant-loop-j

@@ -2,7 +2,6 @@ use mathlib.Core.Path.{refl, ◌∙◌}
 use mathlib.Core.List.{[], ◌∷◌}
 use Prim.Native.Nat.{◌+◌}
 use native.Mathlib.Omega.{arith}
-use borrow.Author.Rules.{rules}
 use Rattle.meaning.specs.Writing.{decimal}
 use Rattle.writing.proofs.Low.{low_all}
 use Rattle.writing.proofs.Written.{follow}

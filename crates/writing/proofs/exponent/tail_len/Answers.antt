@@ -1,5 +1,4 @@
 use native.Mathlib.Omega.{arith}
-use borrow.Author.Rules.{rules}
 use Rattle.writing.proofs.Texts.{tail-above, tail-below, tail_none}
 use Rattle.writing.proofs.exponent.tail_len.Goals as goal
 

@@ -1,5 +1,4 @@
 use mathlib.Core.Path.{◌∙◌}
-use borrow.Author.Rules.{rules}
 use Rattle.meaning.specs.Writing.{hexes}
 use Rattle.writing.proofs.hex.put_hex.Goals as goal
 

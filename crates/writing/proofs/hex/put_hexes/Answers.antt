@@ -1,11 +1,9 @@
-use mathlib.Core.Path.{◌≡◌, ◌∙◌}
-use Prim.Native.Nat.{◌-◌, ◌≤◌}
+use mathlib.Core.Path.{◌≡◌}
 use native.Mathlib.Omega.{arith}
-use lib.ListN.{length, take}
-use lib.Seq.{take_all}
+use lib.ListN.{length}
 use borrow.Author.Rules.{rules}
 use Rattle.meaning.specs.Writing.{hexes}
-use Rattle.writing.proofs.Written.{Filling, filling_none}
+use Rattle.writing.proofs.Written.{filling_none}
 use Rattle.writing.proofs.Texts.{push_hex}
 use Rattle.writing.proofs.hex.put_hexes.Goals as goal
 

@@ -1,12 +1,7 @@
-use mathlib.Core.Path.{◌≡◌, ◌∙◌}
 use Prim.Native.Nat.{◌-◌, ◌≤◌}
-use native.Mathlib.Omega.{arith}
-use lib.ListN.{length, take}
-use lib.Seq.{take_all}
-use borrow.Author.Rules.{rules}
+use lib.ListN.{take}
 use Rattle.meaning.specs.Writing.{hexes}
-use Rattle.writing.proofs.Written.{Filling, filling_none}
-use Rattle.writing.proofs.Texts.{push_hex}
+use Rattle.writing.proofs.Written.{Filling}
 use Rattle.writing.proofs.hex.put_hexes.Given as goal
 
 abbrev pub invariant-loop-i : goal.invariant-loop-i

@@ -1,8 +1,6 @@
-use Prim.Native.Nat.{◌-◌, ◌≤◌}
 use native.Mathlib.Omega.{arith}
-use lib.ListN.{length, take}
 use borrow.Author.Rules.{rules}
-use Rattle.writing.proofs.Written.{Filling, filling_none, push_next, pushed_all}
+use Rattle.writing.proofs.Written.{filling_none, push_next}
 use Rattle.writing.proofs.pieces.put_all.Goals as goal
 
 pub loop-i-init : goal.loop-i-init

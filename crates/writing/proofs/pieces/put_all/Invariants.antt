@@ -1,8 +1,6 @@
 use Prim.Native.Nat.{◌-◌, ◌≤◌}
-use native.Mathlib.Omega.{arith}
 use lib.ListN.{length, take}
-use borrow.Author.Rules.{rules}
-use Rattle.writing.proofs.Written.{Filling, filling_none, push_next, pushed_all}
+use Rattle.writing.proofs.Written.{Filling}
 use Rattle.writing.proofs.pieces.put_all.Given as goal
 
 abbrev pub invariant-loop-i : goal.invariant-loop-i

@@ -1,8 +1,6 @@
-use Prim.Native.Nat.{◌+◌, ◌-◌, ◌≤◌}
 use native.Mathlib.Omega.{arith}
-use lib.ListN.{take, drop}
 use borrow.Author.Rules.{rules}
-use Rattle.writing.proofs.Written.{Filling, filling_none}
+use Rattle.writing.proofs.Written.{filling_none}
 use Rattle.writing.proofs.Point.{push_left, push_point}
 use Rattle.writing.proofs.pieces.put_point.Goals as goal
 

@@ -1,5 +1,4 @@
 use mathlib.Core.Path.{sym}
-use borrow.Author.Rules.{rules}
 use Rattle.writing.proofs.Written.{written_none, written_one}
 use Rattle.writing.proofs.pieces.put_sign.Goals as goal
 

@@ -1,6 +1,3 @@
-use native.Mathlib.Omega.{arith}
-use lib.ListN.{length-set}
-use borrow.Author.Rules.{rules}
 use Rattle.writing.proofs.Written.{written_two}
 use Rattle.writing.proofs.pieces.put_two.Goals as goal
 

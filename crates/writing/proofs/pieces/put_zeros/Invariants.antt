@@ -1,9 +1,6 @@
-use mathlib.Core.Path.{◌≡◌, ◌∙◌}
 use Prim.Native.Nat.{◌-◌, ◌≤◌}
-use native.Mathlib.Omega.{arith}
 use lib.ListN.{replicate}
-use borrow.Author.Rules.{rules}
-use Rattle.writing.proofs.Written.{Filling, filling_none, push_same}
+use Rattle.writing.proofs.Written.{Filling}
 use Rattle.writing.proofs.pieces.put_zeros.Given as goal
 
 abbrev pub invariant-loop-i : goal.invariant-loop-i

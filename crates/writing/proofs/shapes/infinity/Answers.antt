@@ -1,5 +1,4 @@
 use mathlib.Core.Path.{refl}
-use borrow.Author.Rules.{rules}
 use Rattle.meaning.specs.Reading.{bytes}
 use Rattle.writing.proofs.Puts.{signed_no_room, signed_room}
 use Rattle.writing.proofs.shapes.infinity.Goals as goal

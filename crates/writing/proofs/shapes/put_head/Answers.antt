@@ -1,6 +1,4 @@
 use native.Mathlib.Omega.{arith}
-use borrow.Author.Tests.{lt-ltb, le-ltb}
-use borrow.Author.Rules.{rules}
 use Rattle.limbs.specs.Value.{value}
 use Rattle.meaning.specs.Writing.{decimal}
 use Rattle.writing.proofs.Texts.{head_more, head_one}

@@ -1,7 +1,6 @@
 use mathlib.Core.List.{List}
 use Prim.Native.Nat.{ℕ}
 use native.Mathlib.Omega.{arith}
-use borrow.Author.Rules.{rules}
 use Rattle.limbs.specs.Value.{value}
 use Rattle.meaning.specs.Writing.{decimal}
 use Rattle.writing.proofs.Puts.{signed_no_room, signed_room}
