@@ -121,22 +121,28 @@ fn or_zero(c: [u32; 4]) -> [u32; 4]
     }
 }
 
-// rest is the highest limb without its sign bit; the second finite form, infinity and NaN begin at these numbers. The first
-// finite form is by far the commonest.
+// Where the second finite form, infinity and NaN begin, in the highest limb without its sign bit.
+const SECOND_FORM: u32 = 0x6000_0000;
+
+const INFINITY: u32 = 0x7800_0000;
+
+const NAN: u32 = 0x7c00_0000;
+
+// rest is the highest limb without its sign bit. The first finite form is by far the commonest.
 fn fields_of_words(w: [u32; 4]) -> Fields
     ensures { said result ≡ decode (value w) }
 {
     let top = w[3];
     let negative = 0x8000_0000 <= top;
     let rest = top % 0x8000_0000;
-    if rest < 0x6000_0000 {
+    if rest < SECOND_FORM {
         let c = [w[0], w[1], w[2], rest % 0x2_0000];
         return finite(negative, rest / 0x2_0000, or_zero(c));
     }
-    if rest < 0x7800_0000 {
+    if rest < INFINITY {
         return finite(negative, rest / 0x8000 % 0x4000, [0, 0, 0, 0]);
     }
-    if rest < 0x7c00_0000 {
+    if rest < NAN {
         return special(negative, Kind::Infinity);
     }
     special(

@@ -18,12 +18,15 @@ fn too_long(wanted: Wanted, out: &mut [u8]) -> usize
     }
 }
 
+// The longest text that is read.
+const LONGEST: usize = 4096;
+
 // The record of a text; its length is given.
 pub fn record(wanted: Wanted, text: &[u8], out: &mut [u8]) -> usize
     requires { 90 ≤ length out.old }
     ensures { Wrote 0 (record_for wanted text.now) out.old result out.new }
 {
-    if 4096 < text.len() {
+    if LONGEST < text.len() {
         return too_long(wanted, out);
     }
     match wanted {

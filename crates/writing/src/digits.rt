@@ -12,7 +12,7 @@ pub fn put_low(buf: &mut [u8], at: usize, n: usize, v: u32) -> u32
 {
     let mut rest = v;
     let mut j = n;
-    while 0 < j {
+    'digits: while 0 < j {
         j -= 1;
         // `rest % 10` would cost a second division
         let tenth = rest / 10;

@@ -5,7 +5,7 @@ use Rattle.line.proofs.records.record.Goals as goal
 
 pub returns-in-Texts : goal.returns-in-Texts
 returns-in-Texts c =
-    let l = c.if-text-gt4096.false in
+    let l = c.if-text-gt-LONGEST.false in
     let n = record_has_at_most_80 c.args.text.now in
     let e = short_text c.args.text.now l in
     rw c.in-Texts.is (wrote_same e (put_whole c.«record».ensures c.put_len.ensures (rw e (omega (arith, c.requires)))))
