@@ -1,49 +1,32 @@
 -- Laws of signed numbers, and of the relation of two values by their kinds and signs.
 use mathlib.Core.Path.{◌≡◌, refl, sym, ap, ◌∙◌}
 use mathlib.Core.Logic.{⊎_elim}
-use mathlib.Core.Bool.{Bool, true, false, not, cond, beq, true≢false}
+use mathlib.Core.Bool.{Bool, true, false, not, cond, true≢false}
 use Prim.Native.Nat.{ℕ, ◌+◌, ◌-◌, ◌*◌, ◌^◌, ◌≤◌, ◌<◌, min}
 use native.Mathlib.Nat.{add-zero, zero-add, zero-mul, le-mul_of_pos_right}
 use native.Mathlib.Omega.{arith}
-use lib.Dec.{eqb}
 use lib.ListN.{length}
-use borrow.Author.Tests.{eqb-true}
 use Rattle.meaning.specs.Decimal.{InRange}
 use Rattle.meaning.specs.Decimal.Decimal.{finite}
-use Rattle.meaning.specs.Layout.{decode}
 use Rattle.meaning.specs.Order.{compared, signed, scaled, relation}
 use Rattle.meaning.specs.Order.Relation.{less, equal, greater, unordered}
 use Rattle.meaning.specs.Writing.{decimal}
 use Rattle.meaning.proofs.Numbers.{le_or, pow_pos}
-use Rattle.meaning.proofs.Fields.{decodes_in_range}
 use Rattle.meaning.proofs.Ordering.{shown, turns_round}
 use Rattle.meaning.specs.Promises.{turned}
 use Rattle.limbs.specs.Value.{value}
 use Rattle.limbs.specs.Count.{Counts}
-use Rattle.limbs.specs.Order.{order}
-use Rattle.limbs.specs.declared.Order.{Order}
+use Rattle.std.specs.declared.cmp.Ordering.{Ordering}
+use Rattle.std.specs.Ordering.{nat_cmp, ordering_reverse}
 use Rattle.limbs.proofs.Counting.{decimal_counts}
-use Rattle.layout.specs.Unpacked.{said_by, said, meant, digits_of, TrueCount}
+use Rattle.layout.specs.Fields.{said_by, said, digits_of}
 use Rattle.layout.specs.declared.Fields.{Fields}
 use Rattle.layout.specs.declared.Unpacked.{Unpacked}
 use Rattle.layout.specs.declared.Kind.{Kind}
 use Rattle.layout.specs.declared.Kind.TheVariants.{Nan, Infinity, Finite}
-use Rattle.comparing.specs.Told.{told_of, turned_of, side_of, is_finite, is_nan}
-use Rattle.comparing.proofs.Orders.{order-turned, told-order}
-
--- ---- two signs
-
-pub agree : (s t : Bool) → beq s t ≡ true → t ≡ s
-agree true true e = refl
-agree true false e = absurd (true≢false (sym e))
-agree false true e = absurd (true≢false (sym e))
-agree false false e = refl
-
-pub differ : (s t : Bool) → beq s t ≡ false → t ≡ not s
-differ true true e = absurd (true≢false e)
-differ true false e = refl
-differ false true e = refl
-differ false false e = absurd (true≢false e)
+use Rattle.comparing.specs.Told.{told_of, side_of, is_finite, is_nan}
+use Rattle.std.proofs.lemmas.Cmp.{nat_cmp_total}
+use Rattle.comparing.proofs.Orders.{told-order}
 
 -- ---- signed numbers
 
@@ -66,8 +49,8 @@ apart true m n h = shown 0 (n + m) less (omega arith)
 apart false m n h = shown (m + n) 0 greater h
 
 -- where the signs are one the order decides, turned round for negative numbers
-one_sign : (s : Bool) (m n : ℕ) → told_of (cond s (turned_of (order m n)) (order m n)) ≡ signed s m s n
-one_sign true m n = ap told_of (order-turned m n) ∙ told-order n m ∙ sym (negatives m n)
+one_sign : (s : Bool) (m n : ℕ) → told_of (cond s (ordering_reverse (nat_cmp m n)) (nat_cmp m n)) ≡ signed s m s n
+one_sign true m n = ap told_of (sym (nat_cmp_total.antisymm n m)) ∙ told-order n m ∙ sym (negatives m n)
 one_sign false m n = told-order m n ∙ sym (plain m n)
 
 -- where the signs differ a scale does not matter
@@ -86,7 +69,7 @@ module _ (s t : Bool) (x a e c : ℕ) where
       rw d (sym (apart_times s a c (10 ^ (x - min x e)) (10 ^ (e - min e x)) (pow_pos (x - min x e)) (pow_pos (e - min e x))))
 
   -- o is an order that was computed
-  pub of_one_sign : {o : Order} → t ≡ s → o ≡ order (scaled a x e) (scaled c e x) → told_of (cond s (turned_of o) o) ≡ relation (finite s x a) (finite t e c)
+  pub of_one_sign : {o : Ordering} → t ≡ s → o ≡ nat_cmp (scaled a x e) (scaled c e x) → told_of (cond s (ordering_reverse o) o) ≡ relation (finite s x a) (finite t e c)
   unfolding relation
   of_one_sign d g = rw (d, g) (one_sign s (scaled a x e) (scaled c e x))
 
@@ -96,11 +79,6 @@ finite_kind : (k : Kind) → is_finite k ≡ true → k ≡ Finite
 finite_kind (Nan q) e = absurd (true≢false (sym e))
 finite_kind Infinity e = absurd (true≢false (sym e))
 finite_kind Finite e = refl
-
-pub infinite_kind : (k : Kind) → is_nan k ≡ false → is_finite k ≡ false → k ≡ Infinity
-infinite_kind (Nan q) d e = absurd (true≢false d)
-infinite_kind Infinity d e = refl
-infinite_kind Finite d e = absurd (true≢false e)
 
 pub first_nan : (u v : Fields) → is_nan u.kind ≡ true → relation (said u) (said v) ≡ unordered
 unfolding said relation
@@ -162,24 +140,14 @@ equals_itself u d = itself u.kind d
     itself Infinity d = alike u.negative 1
     itself Finite d = alike u.negative (scaled (value u.coefficient) u.exponent u.exponent)
 
--- ---- fields of stored bytes, and unpacked values
-
-pub stored-fields : (u v : Fields) (m n : ℕ) → said u ≡ decode m → said v ≡ decode n → relation (said u) (said v) ≡ relation (decode m) (decode n)
-stored-fields u v m n p q = rw (p, q)
-
--- the same bytes, where t is the test that was made
-pub stored_same : {t : Bool} (u : Fields) (m n : ℕ) → said u ≡ decode m → t ≡ eqb m n → t ≡ true → relation (said u) (said u) ≡ relation (decode m) (decode n)
-stored_same u m n p e q = stored-fields u u m n p (p ∙ ap decode (eqb-true m n (sym e ∙ q)))
-
-pub stored_ranged : (u : Fields) (n : ℕ) → said u ≡ decode n → InRange (said u)
-stored_ranged u n e = rw e (decodes_in_range n)
+-- ---- finite fields, and unpacked values
 
 pub finite_ranged : (u : Fields) → InRange (said u) → is_finite u.kind ≡ true → value u.coefficient < 10 ^ 34
 unfolding said
 finite_ranged u h f = (rw (finite_kind u.kind f) at h).1
 
-pub finite_counts : (u : Unpacked) → InRange (meant u) → TrueCount u → is_finite u.fields.kind ≡ true → Counts (value u.fields.coefficient) u.digits
-unfolding meant said digits_of
-finite_counts u h t f =
-    let e : u.digits ≡ length (decimal (value u.fields.coefficient)) = rw (finite_kind u.fields.kind f) at t in
-    rw e (decimal_counts (value u.fields.coefficient) (finite_ranged u.fields h f))
+pub finite_counts : (u : Unpacked) → is_finite u.fields.kind ≡ true → Counts (value u.fields.coefficient) u.digits
+unfolding said digits_of
+finite_counts u f =
+    let e : u.digits ≡ length (decimal (value u.fields.coefficient)) = rw (finite_kind u.fields.kind f) at u.counted in
+    rw e (decimal_counts (value u.fields.coefficient) (finite_ranged u.fields u.ranged f))

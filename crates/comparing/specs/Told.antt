@@ -1,10 +1,10 @@
--- What the code's relation and order tell, the kinds of a value, and the magnitudes of two finite ones.
-use Rattle.std.specs.Prelude.{Bool, true, false, ◌^◌, ◌<◌}
+-- What the code's order tells, the kinds of a value, and the magnitudes of two finite ones.
+use Rattle.std.specs.Prelude.{Bool, true, false, ◌^◌, ◌<◌, Option, Some, None}
+use Rattle.std.specs.declared.cmp.Ordering.{Ordering}
+use Rattle.std.specs.declared.cmp.Ordering.TheVariants.{Less, Equal, Greater}
+use Rattle.std.specs.Ordering.{nat_cmp}
 use Rattle.limbs.specs.Value.{value}
 use Rattle.limbs.specs.Count.{Counts}
-use Rattle.limbs.specs.Order.{order}
-use Rattle.limbs.specs.declared.Order.{Order}
-use Rattle.limbs.specs.declared.Order.TheVariants as orders
 use Rattle.layout.specs.declared.Kind.{Kind}
 use Rattle.layout.specs.declared.Kind.TheVariants.{Nan, Infinity, Finite}
 use Rattle.layout.specs.declared.Fields.{Fields}
@@ -12,24 +12,16 @@ use Rattle.layout.specs.declared.Unpacked.{Unpacked}
 use Rattle.meaning.specs.Order as meaning
 use Rattle.meaning.specs.Order.{scaled}
 use Rattle.meaning.specs.Order.Relation.{less, equal, greater, unordered}
-use Rattle.comparing.specs.declared.Relation.{Relation}
-use Rattle.comparing.specs.declared.Relation.TheVariants.{Less, Equal, Greater, Unordered}
 
-abbrev pub told : Relation → meaning.Relation
-told Less = less
-told Equal = equal
-told Greater = greater
-told Unordered = unordered
+abbrev pub told_of : Ordering → meaning.Relation
+told_of Less = less
+told_of Equal = equal
+told_of Greater = greater
 
-abbrev pub told_of : Order → meaning.Relation
-told_of orders.Less = less
-told_of orders.Equal = equal
-told_of orders.Greater = greater
-
-abbrev pub turned_of : Order → Order
-turned_of orders.Less = orders.Greater
-turned_of orders.Equal = orders.Equal
-turned_of orders.Greater = orders.Less
+-- no order is none of these
+abbrev pub told : Option Ordering → meaning.Relation
+told (Some o) = told_of o
+told None = unordered
 
 -- a negative value beside a greater one, any other beside a lesser
 abbrev pub side_of : Bool → meaning.Relation
@@ -47,9 +39,9 @@ is_nan Infinity = false
 is_nan Finite = false
 
 -- a·10^x against c·10^e
-abbrev pub magnitudes_of : Fields → Fields → Order
+abbrev pub magnitudes_of : Fields → Fields → Ordering
 magnitudes_of f g =
-    order (scaled (value f.coefficient) f.exponent g.exponent) (scaled (value g.coefficient) g.exponent f.exponent)
+    nat_cmp (scaled (value f.coefficient) f.exponent g.exponent) (scaled (value g.coefficient) g.exponent f.exponent)
 
 -- a coefficient of the format, and its digits
 abbrev pub Sized : Unpacked → Type 0

@@ -1,42 +1,33 @@
 // The order of two values.
 #![tactic(auto)]
 
-ghost use Rattle.std.specs.Prelude.{◌≡◌, true, false, not, cond, ◌+◌, ◌*◌, ◌^◌, ◌≤◌, ◌<◌, eqb};
+ghost use Rattle.std.specs.Prelude.{◌≡◌, true, false, not, if◌then◌else◌, ◌+◌, ◌*◌, ◌^◌, ◌≤◌, ◌<◌, ◌==◌, Some, IfSome};
+ghost use Rattle.std.specs.Ordering.{nat_cmp, ordering_reverse};
 ghost use Rattle.limbs.specs.Value.{value};
-ghost use Rattle.limbs.specs.Order.{order};
-ghost use Rattle.layout.specs.Unpacked.{said, meant, TrueCount};
+ghost use Rattle.layout.specs.Fields.{said};
+ghost use Rattle.layout.specs.Unpacked.{meant};
 ghost use Rattle.layout.specs.declared.Fields as declared;
 ghost use Rattle.meaning.specs.Decimal as decimal;
-ghost use Rattle.meaning.specs.Decimal.{InRange};
 ghost use Rattle.meaning.specs.Layout.{stored, decode};
 ghost use Rattle.meaning.specs.Order as meaning;
 ghost use Rattle.meaning.specs.Order.{scaled, signed};
-ghost use Rattle.comparing.specs.Told.{told, told_of, turned_of, side_of, is_finite, is_nan, magnitudes_of, Sized};
+ghost use Rattle.comparing.specs.Told.{told, told_of, side_of, is_finite, is_nan, magnitudes_of, Sized};
 
 use layout::{Fields, Kind, Unpacked};
-use limbs::Order;
-
-#[derive(Clone, Copy)]
-pub enum Relation {
-    Less,
-    Equal,
-    Greater,
-    Unordered,
-}
+use std::cmp::Ordering;
 
 // ---- magnitudes
 
+// By halves: `c == [0; 4]` costs each pair some fifteen instructions more, and the same value six.
 fn is_zero(c: [u32; 4]) -> bool
-    ensures { result ≡ eqb (value c) 0 }
+    ensures { result ≡ (value c == 0) }
 {
-    if limbs::fits_u64(c) {
-        return limbs::low(c) == 0;
-    }
-    false
+    limbs::low(c) == 0 && limbs::high(c) == 0
 }
 
-// 10^d. A match and no array: an array that is indexed by a variable is built anew at each use.
-fn ten(d: usize) -> u32
+// 10^d. The library's `pow` costs a pair ten instructions more, and a table as much as a `match`, of which the check computes each
+// row by itself.
+fn ten(d: u32) -> u32
     requires { d ≤ 9 }
     ensures { result ≡ 10 ^ d }
 {
@@ -55,116 +46,63 @@ fn ten(d: usize) -> u32
     }
 }
 
+// a·10^d, where a and 10^d are of one limb each.
+fn short_product(a: [u32; 4], d: u32) -> Option<[u32; 4]>
+    ensures { IfSome result (λ r. value r ≡ value a * 10 ^ d) }
+{
+    if 9 < d || a[1] != 0 || limbs::high(a) != 0 {
+        return None;
+    }
+    Some(limbs::of_u64(a[0] as u64 * ten(d) as u64))
+}
+
 // a·10^d against c, nine digits at a time. What four limbs do not hold is above c, and so is any a·10^34 but zero.
-fn raised(a: [u32; 4], d: u32, c: [u32; 4]) -> Order
+fn long_product_order(a: [u32; 4], d: u32, c: [u32; 4]) -> Ordering
     requires { value c < 10 ^ 34 }
-    ensures { result ≡ order (value a * 10 ^ d) (value c) }
+    ensures { result ≡ nat_cmp (value a * 10 ^ d) (value c) }
 {
     if is_zero(a) {
         return limbs::compare(a, c);
     }
     if 33 < d {
-        return Order::Greater;
+        return Ordering::Greater;
     }
-    let mut n = a;
-    let mut left = d;
-    while 9 < left {
-        let m = limbs::multiply(n, 1000000000, 0);
-        if m.carry != 0 {
-            return Order::Greater;
-        }
-        let low = m.low;
-        n = low;
-        left -= 9;
+    let mut product = a;
+    'nines: for _ in 0..d / 9 {
+        let Some(next) = limbs::checked_multiply(product, 1_000_000_000, 0) else {
+            return Ordering::Greater;
+        };
+        product = next;
     }
-    let m = limbs::multiply(n, ten(left as usize), 0);
-    if m.carry != 0 {
-        return Order::Greater;
-    }
-    let low = m.low;
-    limbs::compare(low, c)
-}
-
-// The same of the halves low and high of a, and lower and upper of c: these come in registers, four limbs through memory.
-fn raised_halves(low: u64, high: u64, d: u32, lower: u64, upper: u64) -> Order
-    requires { lower + 2 ^ 64 * upper < 10 ^ 34 }
-    ensures { result ≡ order ((low + 2 ^ 64 * high) * 10 ^ d) (lower + 2 ^ 64 * upper) }
-{
-    raised(
-        limbs::of_halves(low, high),
-        d,
-        limbs::of_halves(lower, upper),
-    )
-}
-
-// a and 10^d are of one limb each.
-fn is_short(a: [u32; 4], d: u32) -> bool
-    ensures { result ≡ true → (value a < 2 ^ 32) × (d ≤ 9) }
-{
-    if 9 < d {
-        return false;
-    }
-    if a[1] != 0 {
-        return false;
-    }
-    limbs::fits_u64(a)
-}
-
-// a·10^d.
-fn short(a: [u32; 4], d: u32) -> [u32; 4]
-    requires { (value a < 2 ^ 32) × (d ≤ 9) }
-    ensures { value result ≡ value a * 10 ^ d }
-{
-    limbs::of_u64(limbs::low(a) * ten(d as usize) as u64)
-}
-
-// The order the other way round.
-fn turned(o: Order) -> Order
-    ensures { result ≡ turned_of o }
-{
-    match o {
-        Order::Less => Order::Greater,
-        Order::Equal => Order::Equal,
-        Order::Greater => Order::Less,
+    match limbs::checked_multiply(product, ten(d % 9), 0) {
+        Some(last) => limbs::compare(last, c),
+        None => Ordering::Greater,
     }
 }
 
-// a·10^x against c·10^e.
-fn magnitudes(x: u32, a: [u32; 4], e: u32, c: [u32; 4]) -> Order
+// a·10^x against c·10^e. The type of an unpacked value says that its coefficient is below 10^34; here one travels by itself, as
+// document 01 has it, and a clause says so.
+fn magnitudes(x: u32, a: [u32; 4], e: u32, c: [u32; 4]) -> Ordering
     requires { (value a < 10 ^ 34) × (value c < 10 ^ 34) }
-    ensures { result ≡ order (scaled (value a) x e) (scaled (value c) e x) }
+    ensures { result ≡ nat_cmp (scaled (value a) x e) (scaled (value c) e x) }
 {
     if x == e {
         return limbs::compare(a, c);
     }
     if x < e {
-        let d = e - x;
-        if is_short(c, d) {
-            return limbs::compare(a, short(c, d));
-        }
-        return turned(raised_halves(
-            limbs::low(c),
-            limbs::high(c),
-            d,
-            limbs::low(a),
-            limbs::high(a),
-        ));
+        return match short_product(c, e - x) {
+            Some(product) => limbs::compare(a, product),
+            None => long_product_order(c, e - x, a).reverse(),
+        };
     }
-    let d = x - e;
-    if is_short(a, d) {
-        return limbs::compare(short(a, d), c);
+    match short_product(a, x - e) {
+        Some(product) => limbs::compare(product, c),
+        None => long_product_order(a, x - e, c),
     }
-    raised_halves(
-        limbs::low(a),
-        limbs::high(a),
-        d,
-        limbs::low(c),
-        limbs::high(c),
-    )
 }
 
 // The same of two finite values by their counts: the first digit that stands higher decides, unless it is a zero.
-fn heights(u: Unpacked, v: Unpacked) -> Order
+fn heights(u: Unpacked, v: Unpacked) -> Ordering
     requires { Sized u × Sized v }
     ensures { result ≡ magnitudes_of u.fields v.fields }
 {
@@ -174,70 +112,54 @@ fn heights(u: Unpacked, v: Unpacked) -> Order
     let c = v.fields.coefficient;
     let first = x as usize + u.digits;
     let second = e as usize + v.digits;
-    if first < second {
-        if !is_zero(c) {
-            return Order::Less;
-        }
+    if first < second && !is_zero(c) {
+        return Ordering::Less;
     }
-    if second < first {
-        if !is_zero(a) {
-            return Order::Greater;
-        }
+    if second < first && !is_zero(a) {
+        return Ordering::Greater;
     }
     magnitudes(x, a, e, c)
 }
 
 // ---- signs
 
-// An order is a relation.
-fn relation_of(o: Order) -> Relation
-    ensures { told result ≡ told_of o }
-{
-    match o {
-        Order::Less => Relation::Less,
-        Order::Equal => Relation::Equal,
-        Order::Greater => Relation::Greater,
-    }
-}
-
 // A negative value stands below, any other above.
-fn side(negative: bool) -> Relation
-    ensures { told result ≡ side_of negative }
+fn side(negative: bool) -> Ordering
+    ensures { told_of result ≡ side_of negative }
 {
     if negative {
-        Relation::Less
+        Ordering::Less
     } else {
-        Relation::Greater
+        Ordering::Greater
     }
 }
 
 // ±a against ∓c; a zero has no sign.
-fn opposite(negative: bool, a: [u32; 4], c: [u32; 4]) -> Relation
-    ensures { told result ≡ signed negative (value a) (not negative) (value c) }
+fn opposite(negative: bool, a: [u32; 4], c: [u32; 4]) -> Ordering
+    ensures { told_of result ≡ signed negative (value a) (not negative) (value c) }
 {
-    if !is_zero(a) {
-        return side(negative);
+    if is_zero(a) && is_zero(c) {
+        Ordering::Equal
+    } else {
+        side(negative)
     }
-    if !is_zero(c) {
-        return side(negative);
-    }
-    Relation::Equal
 }
 
-// The relation of two values of one sign, whose magnitudes have this order.
-fn with_sign(negative: bool, o: Order) -> Relation
-    ensures { told result ≡ told_of (cond negative (turned_of o) o) }
+// The order of two values of one sign, whose magnitudes have this one.
+fn with_sign(negative: bool, magnitudes: Ordering) -> Ordering
+    ensures { result ≡ (if negative then ordering_reverse magnitudes else magnitudes) }
 {
     if negative {
-        return relation_of(turned(o));
+        magnitudes.reverse()
+    } else {
+        magnitudes
     }
-    relation_of(o)
 }
 
 // Two finite values.
-fn finite(u: Fields, v: Fields) -> Relation
+fn finite(u: Fields, v: Fields) -> Ordering
     requires { (value u.coefficient < 10 ^ 34) × (value v.coefficient < 10 ^ 34) }
-    ensures { told result ≡ meaning.relation (decimal.Decimal.finite u.negative u.exponent (value u.coefficient)) (decimal.Decimal.finite v.negative v.exponent (value v.coefficient)) }
+    ensures { told_of result ≡ meaning.relation (decimal.Decimal.finite u.negative u.exponent (value u.coefficient)) (decimal.Decimal.finite v.negative v.exponent (value v.coefficient)) }
 {
     let a = u.coefficient;
     let c = v.coefficient;
@@ -253,109 +175,85 @@ fn finite(u: Fields, v: Fields) -> Relation
 fn is_finite(kind: Kind) -> bool
     ensures { result ≡ is_finite kind }
 {
-    match kind {
-        Kind::Nan { signalling: _ } => false,
-        Kind::Infinity => false,
-        Kind::Finite => true,
-    }
+    matches!(kind, Kind::Finite)
 }
 
 fn is_nan(kind: Kind) -> bool
     ensures { result ≡ is_nan kind }
 {
-    match kind {
-        Kind::Nan { signalling: _ } => true,
-        Kind::Infinity => false,
-        Kind::Finite => false,
-    }
+    matches!(kind, Kind::Nan { .. })
 }
 
 // A NaN or an infinity against any value.
-fn special(u: Fields, v: Fields) -> Relation
+fn special(u: Fields, v: Fields) -> Option<Ordering>
     requires { is_finite u.kind ≡ false }
     ensures { told result ≡ meaning.relation (said u) (said v) }
 {
-    let first = u.kind;
-    let second = v.kind;
-    if is_nan(first) {
-        return Relation::Unordered;
+    if is_nan(u.kind) || is_nan(v.kind) {
+        return None;
     }
-    if is_nan(second) {
-        return Relation::Unordered;
+    if is_finite(v.kind) || u.negative != v.negative {
+        return Some(side(u.negative));
     }
-    if is_finite(second) {
-        return side(u.negative);
-    }
-    if u.negative == v.negative {
-        return Relation::Equal;
-    }
-    side(u.negative)
+    Some(Ordering::Equal)
 }
 
 // Any finite value against a NaN or an infinity.
-fn beside(v: Fields) -> Relation
+fn beside(v: Fields) -> Option<Ordering>
     requires { is_finite v.kind ≡ false }
     ensures { (u : declared.Fields) → is_finite u.kind ≡ true → told result ≡ meaning.relation (said u) (said v) }
 {
-    let kind = v.kind;
-    if is_nan(kind) {
-        return Relation::Unordered;
+    if is_nan(v.kind) {
+        return None;
     }
-    side(!v.negative)
+    Some(side(!v.negative))
 }
 
 // A value against itself.
-fn itself(u: Fields) -> Relation
+fn itself(u: Fields) -> Option<Ordering>
     ensures { told result ≡ meaning.relation (said u) (said u) }
 {
-    let kind = u.kind;
-    if is_nan(kind) {
-        return Relation::Unordered;
+    if is_nan(u.kind) {
+        return None;
     }
-    Relation::Equal
+    Some(Ordering::Equal)
 }
 
-// The relation of two stored values: IEEE 754-2008, 5.11. The same bytes are told first, which costs other finite pairs nothing.
-// The second's fields are taken where the first is known to be finite or not, so that no kind is kept for later. Counting digits
-// would cost more than the raising that it spares.
-pub fn compare(a: &[u8; 16], b: &[u8; 16]) -> Relation
+// The order of two stored values, none with a NaN: IEEE 754-2008, 5.11. The same bytes are told first, which costs other finite
+// pairs nothing. The second's fields are taken where the first is known to be finite or not, so that no kind is kept for later.
+// Counting digits would cost more than the raising that it spares.
+pub fn compare(a: &[u8; 16], b: &[u8; 16]) -> Option<Ordering>
     ensures { told result ≡ meaning.relation (decode (stored a.now)) (decode (stored b.now)) }
 {
     if layout::same(a, b) {
         return itself(layout::fields_of(*a));
     }
     let u = layout::fields_of(*a);
-    let first = u.kind;
-    if !is_finite(first) {
+    if !is_finite(u.kind) {
         return special(u, layout::fields_of(*b));
     }
     let v = layout::fields_of(*b);
-    let second = v.kind;
-    if !is_finite(second) {
+    if !is_finite(v.kind) {
         return beside(v);
     }
-    finite(u, v)
+    Some(finite(u, v))
 }
 
-// The relation of two values whose digits are counted already.
-pub fn values(u: Unpacked, v: Unpacked) -> Relation
-    requires { InRange (meant u) × InRange (meant v) × TrueCount u × TrueCount v }
+// The order of two values whose digits are counted already. What `finite` says of the signs stands here again: one function for both
+// would take the order of the magnitudes as a closure, whose contract is longer than these three lines.
+pub fn values(u: Unpacked, v: Unpacked) -> Option<Ordering>
     ensures { told result ≡ meaning.relation (meant u) (meant v) }
 {
     let f = u.fields;
     let g = v.fields;
-    let first = f.kind;
-    if !is_finite(first) {
+    if !is_finite(f.kind) {
         return special(f, g);
     }
-    let second = g.kind;
-    if !is_finite(second) {
+    if !is_finite(g.kind) {
         return beside(g);
     }
     if f.negative != g.negative {
-        let a = f.coefficient;
-        let c = g.coefficient;
-        return opposite(f.negative, a, c);
+        return Some(opposite(f.negative, f.coefficient, g.coefficient));
     }
-    with_sign(f.negative, heights(u, v))
+    Some(with_sign(f.negative, heights(u, v)))
 }

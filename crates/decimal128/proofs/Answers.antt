@@ -1,85 +1,61 @@
--- Laws of the number, the place and the bytes that a reading hands out.
-use mathlib.Core.Path.{◌≡◌, sym, ap, ◌∙◌}
-use mathlib.Core.Logic.{⊎_elim}
-use mathlib.Core.List.{List, [], ◌∷◌, ◌++◌}
-use Prim.Native.Nat.{ℕ, ◌+◌, ◌≤◌, ◌<◌}
-use native.Mathlib.Omega.{arith}
-use borrow.Author.Tests.{eq-eqb, ne_eqb}
+-- Laws of what a reading hands out, by the reader's result.
+use mathlib.Core.Path.{◌≡◌, refl, ap, ◌∙◌}
+use mathlib.Core.List.{List}
+use Prim.Native.Nat.{ℕ}
+use Rattle.std.specs.Prelude.{Ok, Err, Some, None, replicate}
+use Rattle.std.proofs.Math.IntN.ℤ.{pos, negsuc}
+use Rattle.std.specs.declared.cmp.Ordering.{Ordering}
+use Rattle.std.specs.declared.cmp.Ordering.TheVariants.{Less, Equal, Greater}
+use Rattle.std.specs.contracts.cmp.Ordering.{the_type}
+use denote.Enum.Declared.{tag_of}
+use Rattle.std.proofs.Common.{to_z, of_z, w32, ◌+ℤ◌}
+use Rattle.comparing.specs.Told as comparing
+use Rattle.meaning.specs.Order.{order_given, refusal_given}
 use Rattle.meaning.specs.Refusals.{number_of}
+use Rattle.meaning.specs.Reading.{Located, read_at}
 use Rattle.meaning.specs.Layout.{bytes_of, encode}
-use Rattle.meaning.specs.Reading.{Reading, Located, accepted_as, read_at, read_text}
-use Rattle.meaning.specs.Reading.Reading.{refused, accepted}
-use Rattle.meaning.specs.Writing.{decimal}
-use Rattle.meaning.specs.Answers.{number_given, bytes_given}
-use Rattle.meaning.specs.Stream.{record_text}
-use Rattle.meaning.proofs.Numbers.{le_or}
-use Rattle.meaning.proofs.Digits.{last}
-use Rattle.meaning.proofs.Refused.{refuses_by_1_to_7, accepted_carries_zero}
 use Rattle.layout.specs.Unpacked.{meant}
-use Rattle.layout.proofs.Laws.{tab}
-use Rattle.reading.specs.declared.answer.Answer as reading
-use Rattle.reading.specs.Told.{named, told}
-use Rattle.reading.proofs.Names.{number_of_lem}
-use Rattle.decimal128.specs.Operations.{answered}
-use Rattle.decimal128.specs.Record.{dashes}
+use Rattle.layout.specs.declared.Unpacked.{Unpacked}
+use Rattle.meaning.specs.Answers.{number_given, bytes_given}
+use Rattle.reading.specs.declared.answer.Refused.{Refused}
+use Rattle.reading.specs.Told.{named, Gives}
+use Rattle.decimal128.specs.Operations.{parsed, ReadGives, ParseGives, CompareGives, stored_relation}
+use Rattle.decimal128.specs.declared.MalformedBytes.{MalformedBytes}
 
--- a number above 10 names NotOrdered
-large : (n : ℕ) → 10 < n → number_of (named n) ≡ 11
-unfolding named number_of
-large n g =
-    simp (ne_eqb n 1 (λ e. omega arith), ne_eqb n 2 (λ e. omega arith), ne_eqb n 3 (λ e. omega arith), ne_eqb n 4 (λ e. omega arith), ne_eqb n 5 (λ e. omega arith), ne_eqb n 6 (λ e. omega arith), ne_eqb n 7 (λ e. omega arith), ne_eqb n 8 (λ e. omega arith), ne_eqb n 9 (λ e. omega arith), ne_eqb n 10 (λ e. omega arith))
+-- ---- what C is told of a comparison
 
--- a number that names a refusal of 1 to 7 is the refusal's
-named_back : (n : ℕ) → (n ≡ 0 → ⊥) → number_of (named n) ≤ 7 → number_of (named n) ≡ n
-named_back n z h =
-    ⊎_elim (λ l. number_of_lem n (omega arith) l) (λ g. absurd (omega (arith, large n g))) (le_or n 10)
+-- the number and the order of each order, which is its tag
+pub order_given_c : (a b : List ℕ) (o : Ordering) → comparing.told (Some o) ≡ stored_relation a b →
+    CompareGives a b 0 (to_z w32 (of_z w32 (to_z w32 (tag_of the_type o) +ℤ negsuc 0)))
+unfolding order_given refusal_given
+order_given_c a b Less h = record { is = rw (← h) refl; at = rw (← h) refl }
+order_given_c a b Equal h = record { is = rw (← h) refl; at = rw (← h) refl }
+order_given_c a b Greater h = record { is = rw (← h) refl; at = rw (← h) refl }
 
--- what the reader tells of a text s
-module _ (s : List ℕ) (r : reading.Answer) (tells : told r ≡ read_at s) where
-  place_is : r.place ≡ (read_at s).place
-  unfolding told
-  place_is = ap (λ (a : Located). a.place) tells
+pub none_given_c : (a b : List ℕ) → comparing.told None ≡ stored_relation a b → CompareGives a b 11 (pos 0)
+unfolding order_given refusal_given number_of
+none_given_c a b h = record { is = rw (← h) refl; at = rw (← h) refl }
 
-  -- a refusal
-  module _ (some : r.number ≡ 0 → ⊥) where
-    refused-is : read_text s ≡ refused (named r.number)
-    unfolding told
-    refused-is = ap (λ (a : Located). a.reading) (sym tells) ∙ simp (ne_eqb r.number 0 some)
+-- ---- what C is told of a reading, and of a slice that is no value
 
-    small : number_of (named r.number) ≤ 7
-    small = refuses_by_1_to_7 s (named r.number) refused-is
+pub value_read_c : (s : List ℕ) (u : Unpacked) {b : List ℕ} → Gives (read_at s) (Ok u) → b ≡ bytes_of 16 (encode (meant u)) → ReadGives s 0 b 0
+unfolding number_given bytes_given
+value_read_c s u g e =
+    record {
+      is = ap (λ (l : Located). number_given l.reading) g.tells;
+      bytes = e ∙ ap (λ (l : Located). bytes_given l.reading) g.tells;
+      at = ap (λ (l : Located). l.place) g.tells;
+    }
 
-    number_is : number_of (named r.number) ≡ r.number
-    number_is = named_back r.number some small
+pub refused_read_c : (s : List ℕ) (e : Refused) {n : ℕ} → Gives (read_at s) (Err e) → n ≡ number_of (named e.refusal) → ReadGives s n (replicate 16 0) e.place
+unfolding number_given bytes_given
+refused_read_c s e g f =
+    record {
+      is = f ∙ ap (λ (l : Located). number_given l.reading) g.tells;
+      bytes = ap (λ (l : Located). bytes_given l.reading) g.tells;
+      at = ap (λ (l : Located). l.place) g.tells;
+    }
 
-    pub one-digit : r.number < 10
-    one-digit = omega (arith, small, number_is)
-
-    pub answer-refused : record { number = r.number; place = r.place; bytes = tab 16 (λ (k : ℕ). 0) } ≡ answered (read_at s)
-    unfolding number_given bytes_given
-    answer-refused = rw (refused-is, number_is, place_is)
-
-    -- one digit of the number
-    digit-is : decimal r.number ≡ (48 + r.number) ∷ []
-    unfolding decimal
-    digit-is = last 39 r.number [] one-digit
-
-    pub record-refused : dashes r.number ++ decimal r.place ++ 10 ∷ [] ≡ record_text (read_at s)
-    unfolding record_text number_given
-    record-refused = rw (refused-is, number_is, digit-is, place_is)
-
-  -- a value
-  module _ (none : r.number ≡ 0) where
-    value-is : read_text s ≡ accepted (meant r.value)
-    unfolding told
-    value-is = ap (λ (a : Located). a.reading) (sym tells) ∙ simp (eq-eqb r.number 0 none)
-
-    pub accepted-is : read_at s ≡ accepted_as (meant r.value)
-    accepted-is = located value-is (accepted_carries_zero s (meant r.value) value-is)
-      where
-        located : {a : Located} {q : Reading} {p : ℕ} → a.reading ≡ q → a.place ≡ p → a ≡ record { reading = q; place = p }
-        located {a} e f = rw (← e, ← f)
-
-    pub answer-accepted : {bytes : List ℕ} → bytes ≡ bytes_of 16 (encode (meant r.value)) → record { number = 0; place = 0; bytes = bytes } ≡ answered (read_at s)
-    unfolding number_given bytes_given
-    answer-accepted e = rw (accepted-is, e)
+pub malformed_c : (s : List ℕ) {e : MalformedBytes} → Err e ≡ parsed s → ParseGives s 8 (replicate 16 0)
+unfolding number_of
+malformed_c s e = record { is = rw (← e) refl; bytes = rw (← e) refl }

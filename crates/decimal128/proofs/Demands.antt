@@ -1,5 +1,5 @@
 -- Demand 1, proved.
-use mathlib.Core.Path.{◌≡◌, ap, ◌∙◌}
+use mathlib.Core.Path.{◌≡◌, refl, sym, ap, ◌∙◌}
 use mathlib.Core.Logic.{◌⊎◌, ⊎_elim}
 use mathlib.Core.List.{List, ◌++◌}
 use Prim.Native.Nat.{ℕ, ◌≤◌, ◌<◌}
@@ -9,31 +9,53 @@ use borrow.Author.Tests.{le-leb, lt-leb}
 use Rattle.meaning.specs.Answers.{number_given, bytes_given}
 use Rattle.meaning.proofs.Numbers.{le_or}
 use Rattle.meaning.proofs.Refused.{every_place_is_within, accepted_carries_zero}
-use Rattle.writing.specs.declared.Put.{Put}
-use Rattle.writing.specs.declared.Put.TheVariants.{Done, NoRoom}
-use Rattle.writing.specs.Put.{put_of, placed, Puts}
-use Rattle.decimal128.specs.declared.Answer.{Answer}
+use Rattle.std.specs.Prelude.{Result, Ok, Err, replicate}
+use Rattle.writing.specs.declared.NoRoom.{NoRoom}
+use Rattle.writing.specs.Put.{put_of, placed, Puts, no_room_error}
+use Rattle.std.specs.Prelude.{IsOkAnd, IsErrAnd}
+use Rattle.meaning.specs.Refusals.{number_of}
+use Rattle.meaning.specs.Decimal.{Decimal}
+use Rattle.meaning.specs.Layout.{bytes_of, encode}
+use Rattle.meaning.specs.Reading.{Located, read_at}
+use Rattle.meaning.specs.Reading.Reading.{refused, accepted}
+use Rattle.reading.specs.declared.answer.Refused.{Refused}
+use Rattle.reading.specs.Told.{named}
+use Rattle.decimal128.specs.declared.Decimal128.{Decimal128}
+use Rattle.decimal128.specs.Operations.{given, ReadAllows}
 use Rattle.decimal128.specs.Demand1.{RefusedReadingIsZero, AcceptedReadingIsItsBytes, NoRoomExactly, NoRoomChangesNothing, AcceptedIsTheText}
 
 pub refused_reading_is_zero : RefusedReadingIsZero
 unfolding number_given bytes_given
-refused_reading_is_zero text q r e f =
-    let p = ap (λ (a : Answer). a.place) e in
-    (ap (λ (a : Answer). a.number) e ∙ rw f, p, rw p (every_place_is_within text), ap (λ (a : Answer). a.bytes) e ∙ rw f)
+refused_reading_is_zero text q f = (in_rattle, λ n out place g. (g.is ∙ rw f, g.at, rw g.at (every_place_is_within text), g.bytes ∙ rw f))
+  where
+    in_rattle : (r : Result Decimal128 Refused) → ReadAllows text r → (given r ≡ replicate 16 0)
+        × IsErrAnd r (λ e. (number_of (named e.refusal) ≡ number_of q) × (e.place ≡ (read_at text).place) × (e.place ≤ length text))
+    in_rattle (Ok d) a = absurd (let k : refused q ≡ accepted a.0 = sym f ∙ ap (λ (l : Located). l.reading) a.1 in cc)
+    in_rattle (Err e) a =
+        let k : refused q ≡ refused (named e.refusal) = sym f ∙ ap (λ (l : Located). l.reading) a in
+        let same : named e.refusal ≡ q = (cc) in
+        let place : e.place ≡ (read_at text).place = sym (ap (λ (l : Located). l.place) a) in
+        (refl, (ap number_of same, place, rw place (every_place_is_within text)))
 
 pub accepted_reading_is_its_bytes : AcceptedReadingIsItsBytes
 unfolding number_given bytes_given
-accepted_reading_is_its_bytes text v r e f =
-    (ap (λ (a : Answer). a.number) e ∙ rw f, ap (λ (a : Answer). a.place) e ∙ accepted_carries_zero text v f, ap (λ (a : Answer). a.bytes) e ∙ rw f)
+accepted_reading_is_its_bytes text v f = (in_rattle, λ n out place g. (g.is ∙ rw f, g.at ∙ accepted_carries_zero text v f, g.bytes ∙ rw f))
+  where
+    in_rattle : (r : Result Decimal128 Refused) → ReadAllows text r → IsOkAnd r (λ d. d.bytes ≡ bytes_of 16 (encode v))
+    in_rattle (Ok d) a =
+        let k : accepted v ≡ accepted a.0 = sym f ∙ ap (λ (l : Located). l.reading) a.1 in
+        let same : a.0 ≡ v = (cc) in
+        a.2 ∙ ap (λ (x : Decimal). bytes_of 16 (encode x)) same
+    in_rattle (Err e) a = absurd (let k : accepted v ≡ refused (named e.refusal) = sym f ∙ ap (λ (l : Located). l.reading) a in cc)
 
 -- with room, and without
-module _ (text before : List ℕ) (r : Put) (after : List ℕ) (k : Puts text before r after) where
-  with_room : length text ≤ length before → (r ≡ Done (length text)) × (after ≡ text ++ drop (length text) before)
+module _ (text before : List ℕ) (r : Result ℕ NoRoom) (after : List ℕ) (k : Puts text before r after) where
+  with_room : length text ≤ length before → (r ≡ Ok (length text)) × (after ≡ text ++ drop (length text) before)
   unfolding put_of placed
   with_room h =
       let f = le-leb (length text) (length before) h in (k.answer ∙ simp f, k.buffer ∙ simp f)
 
-  without_room : length before < length text → (r ≡ NoRoom) × (after ≡ before)
+  without_room : length before < length text → (r ≡ Err no_room_error) × (after ≡ before)
   unfolding put_of placed
   without_room h =
       let f = lt-leb (length text) (length before) h in (k.answer ∙ simp f, k.buffer ∙ simp f)

@@ -1,4 +1,3 @@
-pub mod Laws
 pub mod Frames
 pub mod Answers
 pub mod Tight

@@ -6,7 +6,7 @@ ghost use Rattle.std.specs.Prelude.{◌≡◌};
 ghost use Rattle.meaning.specs.Order.{Choice};
 ghost use Rattle.larger.specs.Part.{slice, named, LargerAllows};
 
-use comparing::Relation;
+use std::cmp::Ordering;
 
 // No byte of the text, from where it begins.
 fn empty_part(text: &[u8]) -> &[u8]
@@ -19,22 +19,17 @@ fn empty_part(text: &[u8]) -> &[u8]
 pub fn larger<'a>(a: &'a [u8], b: &'a [u8]) -> &'a [u8]
     ensures { LargerAllows a.entry b.entry result }
 {
-    let x = reading::read(a);
-    if x.number != 0 {
+    let Ok(u) = reading::read(a) else {
         return empty_part(a);
-    }
-    let y = reading::read(b);
-    if y.number != 0 {
+    };
+    let Ok(v) = reading::read(b) else {
         return empty_part(a);
-    }
-    let u = x.value;
-    let v = y.value;
-    let relation = comparing::values(u, v);
-    match relation {
-        Relation::Less => b,
-        Relation::Equal => a,
-        Relation::Greater => a,
-        Relation::Unordered => empty_part(a),
+    };
+    match comparing::values(u, v) {
+        Some(Ordering::Less) => b,
+        Some(Ordering::Equal) => a,
+        Some(Ordering::Greater) => a,
+        None => empty_part(a),
     }
 }
 

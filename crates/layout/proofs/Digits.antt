@@ -6,7 +6,8 @@ use Rattle.meaning.specs.Decimal.{Decimal, InRange}
 use Rattle.meaning.specs.Decimal.Decimal.{nan, infinity, finite}
 use Rattle.meaning.proofs.Digits.{decimal_some, few}
 use Rattle.limbs.proofs.Counting.{counts_decimal, zero_counts}
-use Rattle.layout.specs.Unpacked.{meant, digits_of, CountIsOneToThirtyFour, ZeroHasOneDigit}
+use Rattle.layout.specs.Fields.{digits_of}
+use Rattle.layout.specs.Unpacked.{meant, EveryOneIsTrue, CountIsOneToThirtyFour, ZeroHasOneDigit}
 
 digits_few : (v : Decimal) → InRange v → (1 ≤ digits_of v) × (digits_of v ≤ 34)
 unfolding digits_of
@@ -14,8 +15,12 @@ digits_few (nan s q) h = (lit≤ tt, lit≤ tt)
 digits_few (infinity s) h = (lit≤ tt, lit≤ tt)
 digits_few (finite s e c) h = (decimal_some c h.1, few c 33 h.1)
 
+pub every_one_is_true : EveryOneIsTrue
+unfolding meant
+every_one_is_true u = (u.ranged, u.counted)
+
 pub count_is_one_to_thirty_four : CountIsOneToThirtyFour
-count_is_one_to_thirty_four u h t = rw t (digits_few (meant u) h)
+count_is_one_to_thirty_four u = let t = every_one_is_true u in rw t.1 (digits_few (meant u) t.0)
 
 pub zero_has_one_digit : ZeroHasOneDigit
 unfolding digits_of

@@ -2,7 +2,8 @@
 use mathlib.Core.Path.{◌≡◌, refl, sym}
 use mathlib.Core.Logic.{inl, inr, ⊎_elim}
 use Prim.Native.Nat.{ℕ, zero, suc, ◌+◌, ◌-◌, ◌*◌, ◌/◌, ◌^◌, ◌≤◌, ◌<◌, max}
-use native.Mathlib.Nat.{mul_comm, pow-succ', div-lt_iff_lt-mul, le-div_iff_mul-le}
+use native.Mathlib.Nat.{mul_comm, lt_of_lt_of_le, pow-succ', div-lt_iff_lt-mul, le-div_iff_mul-le}
+use native.Mathlib.Numerals.{add-one}
 use native.Mathlib.Omega.{arith}
 use lib.Dec.{lit<, lit≤}
 use lib.ListN.{length}
@@ -10,7 +11,7 @@ use lib.Pow.{pow-add}
 use Rattle.meaning.specs.Writing.{decimal}
 use Rattle.meaning.proofs.Numbers.{le_or, pow_pos, pow-le, number_lt}
 use Rattle.meaning.proofs.Digits.{Counted, count_is, decimal_all, decimal-number, decimal_some, few}
-use Rattle.limbs.specs.Count.{Counts, Four}
+use Rattle.limbs.specs.Count.{Counts}
 
 counted : (n j : ℕ) → Counts n (suc j) → Counted n j
 counted n zero h = record { below = h.below; above = inl refl }
@@ -60,5 +61,9 @@ counts_more j n (suc i) l h =
       above = let e : j + suc i - 1 ≡ j + i = omega arith in rw (e, pow-add) (omega (arith, mul_comm (10 ^ j) (10 ^ i)));
     }
 
-pub four : (k n : ℕ) → k < 32 → 10 ^ k ≤ n → n < 10 ^ (k + 4) → Four n k (10 ^ (k + 1)) (10 ^ (k + 2)) (10 ^ (k + 3))
-four k n f l h = record { few = f; above = l; first = refl; second = refl; third = refl; below = h }
+-- a logarithm, rounded down, and one
+pub log_counts : (n k : ℕ) → n < 2 ^ 64 → 10 ^ k ≤ n → n < 10 * 10 ^ k → k + 1 ≡ length (decimal n)
+log_counts n k f h l = counts_decimal n (k + 1) (lt_of_lt_of_le f (lit≤ tt)) (counts_between k (k + 1) n (omega arith) h (rw (add-one, pow-succ') l))
+
+pub zero_length : (n : ℕ) → n ≡ 0 → 1 ≡ length (decimal n)
+zero_length n e = rw e (counts_decimal 0 1 (lit< tt) zero_counts)

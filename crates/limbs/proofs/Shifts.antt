@@ -1,20 +1,21 @@
 -- Laws of an exponent in steps 6 to 10, where a sign and 64 bits stand for it.
-use mathlib.Core.Path.{◌≡◌, refl, sym, subst, ◌∙◌}
+use mathlib.Core.Path.{◌≡◌, refl, subst}
 use mathlib.Core.Logic.{inl, inr, ⊎_elim}
-use mathlib.Core.Bool.{Bool, true, false, not, true≢false}
+use mathlib.Core.Bool.{Bool, true, false}
+use mathlib.Core.List.{List}
 use Prim.Native.Nat.{ℕ, ◌+◌, ◌-◌, ◌^◌, ◌≤◌, ◌<◌, min, max}
 use native.Mathlib.Omega.{arith}
 use lib.Dec.{lit≤}
-use borrow.Author.Tests.{leb-true, leb-false, not-true, not-false}
-use Rattle.meaning.specs.Refusals.{number_of}
-use Rattle.meaning.specs.Refusals.Refusal.{invalid_exponent, underflow}
 use Rattle.meaning.specs.Reading.{origin, low, high, Written}
 use Rattle.meaning.specs.Reading.Written.{written, wrong}
 use Rattle.meaning.proofs.Numbers.{le_or}
 use Rattle.limbs.specs.Value.{value}
-use Rattle.limbs.specs.Wide.{in_range, Signed, WrittenAs, Sized, Stands, Raised, Narrowed, Lowered, stand_at}
-use Rattle.limbs.specs.declared.wide.Wide.{Wide}
-use Rattle.limbs.specs.declared.wide.Shift.{Shift}
+use Rattle.std.specs.Prelude.{Option, Some, None, Result, Ok, Err, unwrap_or}
+use Rattle.std.specs.Option.{SomeIff}
+use Rattle.limbs.specs.Wide.{Shift, Signed, WrittenAs, Sized, Stands, Raised, Narrowed, Lowered, stand_at}
+use Rattle.limbs.specs.declared.wide.ExponentError.{ExponentError}
+use Rattle.limbs.specs.declared.wide.ExponentError.TheVariants.{Invalid, Underflow}
+use Rattle.limbs.specs.declared.wide.Exponent.{Exponent}
 use Rattle.limbs.specs.declared.wide.Stand.{Stand}
 
 -- ---- 2^127, which `omega` takes as an unknown
@@ -43,6 +44,11 @@ unfolding Signed Sized
 saturated true size n l h = (omega arith, λ f. absurd (omega arith))
 saturated false size n l h = (omega arith, λ f. absurd (omega arith))
 
+-- what fits 64 bits, or the largest that does
+pub narrowed : (neg : Bool) (size n : ℕ) (r : Option ℕ) → SomeIff r (size < 2 ^ 64) size → Signed neg size n → Sized (2 ^ 64 - 1) n neg (unwrap_or r (2 ^ 64 - 1))
+narrowed neg size n (Some x) p h = rw p.1 (exact _ neg size n h)
+narrowed neg size n None p h = saturated neg size n (⊎_elim (λ l. l) (λ l. absurd (p l)) (le_or (2 ^ 64) size)) h
+
 pub minus_stands : (f : ℕ) → f < 2 ^ 63 → Sized (2 ^ 64 - 1) (origin - f) true f
 minus_stands f h = exact _ true f (origin - f) (unfold Signed in omega (arith, origin_large))
 
@@ -54,47 +60,40 @@ plus_size : {neg : Bool} (n size : ℕ) → neg ≡ false → Signed neg size n 
 unfolding Signed
 plus_size n size e h = subst (λ (b : Bool). Signed b size n) e h
 
-stands : (neg : Bool) (n f total : ℕ) (r : Shift) → f ≤ n → Signed neg total (n - f) → Narrowed neg total r → Lowered (written n) f r
+stands : (neg : Bool) (n f total : ℕ) (x : Shift) → f ≤ n → Signed neg total (n - f) → Narrowed neg total x → Lowered (written n) f (Ok x)
 unfolding Lowered
-stands neg n f total r l h k = inr (l, k.0, k.1 (n - f) h)
+stands neg n f total x l h k = inr (l, k (n - f) h)
 
 -- E is minus size, or size, and is n - 2^127
-module _ {neg : Bool} (n size f : ℕ) (r : Shift) (h : Signed neg size n) where
-  pub lowered_out : neg ≡ true → origin < size + f → r.number ≡ number_of underflow → Lowered (written n) f r
+module _ {neg : Bool} (n size f : ℕ) (h : Signed neg size n) where
+  pub lowered_out : neg ≡ true → origin < size + f → Lowered (written n) f (Err Underflow)
   unfolding Lowered
-  lowered_out e l k = inl (omega (arith, minus-size n size e h), k)
+  lowered_out e l = inl (omega (arith, minus-size n size e h), refl)
 
-  pub lowered_minus : (total : ℕ) → neg ≡ true → total ≡ size + f → total ≤ origin → Narrowed true total r → Lowered (written n) f r
-  lowered_minus total e t l k =
-      let m = minus-size n size e h in stands true n f total r (omega arith) (unfold Signed in omega arith) k
+  pub lowered_minus : (total : ℕ) (x : Shift) → neg ≡ true → total ≡ size + f → total ≤ origin → Narrowed true total x → Lowered (written n) f (Ok x)
+  lowered_minus total x e t l k =
+      let m = minus-size n size e h in stands true n f total x (omega arith) (unfold Signed in omega arith) k
 
-  pub lowered_past : (total : ℕ) → neg ≡ false → f < 2 ^ 63 → size < f → total ≡ f - size → Narrowed true total r → Lowered (written n) f r
-  lowered_past total e b l t k =
+  pub lowered_past : (total : ℕ) (x : Shift) → neg ≡ false → f < 2 ^ 63 → size < f → total ≡ f - size → Narrowed true total x → Lowered (written n) f (Ok x)
+  lowered_past total x e b l t k =
       let m = plus_size n size e h in
-      let o = origin_large in stands true n f total r (omega arith) (unfold Signed in omega arith) k
+      let o = origin_large in stands true n f total x (omega arith) (unfold Signed in omega arith) k
 
-  pub lowered_plus : (total : ℕ) → neg ≡ false → f ≤ size → total ≡ size - f → Narrowed false total r → Lowered (written n) f r
-  lowered_plus total e l t k =
-      let m = plus_size n size e h in stands false n f total r (omega arith) (unfold Signed in omega arith) k
-
--- a test that was made
-pub out_of_range : {t : Bool} (v : ℕ) → t ≡ in_range true v → not t ≡ true → origin < v
-out_of_range {t} v e h = leb-false v origin (sym e ∙ not-true t h)
-
-pub in_range_lem : {t : Bool} (v : ℕ) → t ≡ in_range true v → not t ≡ false → v ≤ origin
-in_range_lem {t} v e h = leb-true v origin (sym e ∙ not-false t h)
+  pub lowered_plus : (total : ℕ) (x : Shift) → neg ≡ false → f ≤ size → total ≡ size - f → Narrowed false total x → Lowered (written n) f (Ok x)
+  lowered_plus total x e l t k =
+      let m = plus_size n size e h in stands false n f total x (omega arith) (unfold Signed in omega arith) k
 
 -- steps 5 and 6
-pub refused_wrong : (w : Written) (e : Wide) (f : ℕ) (r : Shift) → WrittenAs w e → e.good ≡ false → r.number ≡ number_of invalid_exponent → Lowered w f r
+pub refused_wrong : (w : Written) (f : ℕ) → WrittenAs w None → Lowered w f (Err Invalid)
 unfolding WrittenAs Lowered
-refused_wrong wrong e f r h b k = k
-refused_wrong (written n) e f r h b k = absurd (true≢false (sym h.0 ∙ b))
+refused_wrong wrong f h = refl
+refused_wrong (written n) f h = absurd h
 
-pub lowered_written : (w : Written) (e : Wide) (f : ℕ) (r : Shift) → WrittenAs w e → e.good ≡ true →
+pub lowered_written : (w : Written) (e : Exponent (List ℕ)) (f : ℕ) (r : Result Shift ExponentError) → WrittenAs w (Some e) →
     ((n : ℕ) → Signed e.negative (value e.size) n → Lowered (written n) f r) → Lowered w f r
 unfolding WrittenAs
-lowered_written wrong e f r h b k = absurd (true≢false (sym b ∙ h))
-lowered_written (written n) e f r h b k = k n h.1
+lowered_written wrong e f r h k = absurd (cc)
+lowered_written (written n) e f r h k = k n h
 
 -- ---- step 8
 
@@ -143,7 +142,7 @@ module _ {neg : Bool} (n size : ℕ) (h : Sized (2 ^ 63) n neg size) where
   pub place_minus : neg ≡ true → size ≤ 6176 → ◌≡◌ {A = Stand} (record { field = 6176 - size; below = 0; above = 0 }) (stand_at n)
   place_minus e l = let m = (minus_sized n size e h).1 (omega arith) in stand n (omega (arith, low_origin, high_origin))
 
-  pub place_below : {b : ℕ} → neg ≡ true → 6176 < size → b ≡ min 35 (size - 6176) → ◌≡◌ {A = Stand} (record { field = 0; below = b; above = 0 }) (stand_at n)
+  pub place_below : {b : ℕ} → neg ≡ true → 6176 < size → b ≡ min (size - 6176) 35 → ◌≡◌ {A = Stand} (record { field = 0; below = b; above = 0 }) (stand_at n)
   place_below e l k =
       let m = minus_sized n size e h in
       stand n
@@ -152,7 +151,7 @@ module _ {neg : Bool} (n size : ℕ) (h : Sized (2 ^ 63) n neg size) where
   pub place_plus : neg ≡ false → size ≤ 6111 → ◌≡◌ {A = Stand} (record { field = 6176 + size; below = 0; above = 0 }) (stand_at n)
   place_plus e l = let m = (plus_sized n size e h).1 (omega arith) in stand n (omega (arith, low_origin, high_origin))
 
-  pub place_above : {a : ℕ} → neg ≡ false → 6111 < size → a ≡ min 35 (size - 6111) → ◌≡◌ {A = Stand} (record { field = 12287; below = 0; above = a }) (stand_at n)
+  pub place_above : {a : ℕ} → neg ≡ false → 6111 < size → a ≡ min (size - 6111) 35 → ◌≡◌ {A = Stand} (record { field = 12287; below = 0; above = a }) (stand_at n)
   place_above e l k =
       let m = plus_sized n size e h in
       stand n

@@ -1,5 +1,4 @@
 pub mod Value
-pub mod Order
 pub mod Powers
 pub mod Count
 pub mod Wide

@@ -1,25 +1,28 @@
 -- Exponents in the code: how a written one stands in a sign and limbs, and an exponent of steps 6 to 10 in 64 bits.
 -- An exponent x stands as n = x + 2^127, as in the definitions of the steps.
-use Rattle.std.specs.Prelude.{◌≡◌, ◌⊎◌, Bool, true, false, List, ℕ, ◌+◌, ◌-◌, ◌^◌, ◌≤◌, ◌<◌, min, max, leb, ltb}
-use Rattle.meaning.specs.Refusals.{number_of}
-use Rattle.meaning.specs.Refusals.Refusal.{invalid_exponent, underflow}
+use Rattle.std.specs.Prelude.{◌≡◌, ◌⊎◌, Bool, true, false, List, ℕ, ◌+◌, ◌-◌, ◌^◌, ◌≤◌, ◌<◌, min, max, nat_le, nat_lt, Option, Some, None, IsSomeAnd, Result, Err, IsOkAnd}
 use Rattle.meaning.specs.Reading.{origin, low, high, all_digits, number, upward, downward, Written}
 use Rattle.meaning.specs.Reading.Written.{written, wrong}
 use Rattle.limbs.specs.Value.{value}
-use Rattle.limbs.specs.declared.wide.Wide.{Wide}
-use Rattle.limbs.specs.declared.wide.Shift.{Shift}
+use Rattle.limbs.specs.declared.wide.ExponentError.{ExponentError}
+use Rattle.limbs.specs.declared.wide.ExponentError.TheVariants.{Invalid, Underflow}
+use Rattle.limbs.specs.declared.wide.Exponent.{Exponent}
 use Rattle.limbs.specs.declared.wide.Stand.{Stand}
+
+-- an exponent in 64 bits, since antt has no name for an alias of the code
+abbrev pub Shift : Type 0
+Shift = Exponent ℕ
 
 -- ---- step 5
 
--- the digits t, after those that wrote n, write v; or they are not good: one is no digit, or 128 bits are passed
-unfoldable pub Spells : ℕ → List ℕ → Bool → ℕ → Type 0
-Spells n t true v = (all_digits t ≡ true) × (v ≡ number n t)
-Spells n t false v = (all_digits t ≡ false) ⊎ (2 ^ 128 ≤ number n t)
+-- the digits t, after those that wrote n, write the limbs v; or there are none: one is no digit, or 128 bits are passed
+unfoldable pub Spells : ℕ → List ℕ → Option (List ℕ) → Type 0
+Spells n t (Some v) = (all_digits t ≡ true) × (value v ≡ number n t)
+Spells n t None = (all_digits t ≡ false) ⊎ (2 ^ 128 ≤ number n t)
 
 abbrev pub in_range : Bool → ℕ → Bool
-in_range true size = leb size origin
-in_range false size = ltb size origin
+in_range true size = nat_le size origin
+in_range false size = nat_lt size origin
 
 -- what is written after a sign, which is minus or not
 abbrev pub signed : Bool → List ℕ → Written
@@ -31,9 +34,9 @@ unfoldable pub Signed : Bool → ℕ → ℕ → Type 0
 Signed true size n = n + size ≡ origin
 Signed false size n = n ≡ origin + size
 
-unfoldable pub WrittenAs : Written → Wide → Type 0
-WrittenAs wrong w = w.good ≡ false
-WrittenAs (written n) w = (w.good ≡ true) × Signed w.negative (value w.size) n
+unfoldable pub WrittenAs : Written → Option (Exponent (List ℕ)) → Type 0
+WrittenAs wrong e = e ≡ None
+WrittenAs (written n) e = IsSomeAnd e (λ x. Signed x.negative (value x.size) n)
 
 -- ---- steps 6 to 10
 
@@ -52,12 +55,12 @@ Raised n x = Sized (2 ^ 63) n x.negative x.size
 
 -- r stands for a size with its sign
 abbrev pub Narrowed : Bool → ℕ → Shift → Type 0
-Narrowed neg size r = (r.number ≡ 0) × ((n : ℕ) → Signed neg size n → Stands n r)
+Narrowed neg size r = (n : ℕ) → Signed neg size n → Stands n r
 
--- steps 5 and 6: the number of the refusal, or E-F
-unfoldable pub Lowered : Written → ℕ → Shift → Type 0
-Lowered wrong f r = r.number ≡ number_of invalid_exponent
-Lowered (written e) f r = ((e < f) × (r.number ≡ number_of underflow)) ⊎ ((f ≤ e) × (r.number ≡ 0) × Stands (e - f) r)
+-- steps 5 and 6: the refusal, or E-F
+unfoldable pub Lowered : Written → ℕ → Result Shift ExponentError → Type 0
+Lowered wrong f r = r ≡ Err Invalid
+Lowered (written e) f r = ((e < f) × (r ≡ Err Underflow)) ⊎ ((f ≤ e) × IsOkAnd r (Stands (e - f)))
 
 -- the exponent n - 2^127 against the range
 unfoldable pub stand_at : ℕ → Stand

@@ -1,48 +1,20 @@
-// How many decimal digits a number has; zero has one. Tests against powers of ten, nested so that few are made.
-ghost use Rattle.std.specs.Prelude.{◌≡◌, ◌+◌, ◌^◌, ◌≤◌, ◌<◌, length};
+// How many decimal digits a number has; zero has one. Tests against powers of ten, nested so that few are made: `partition_point` over
+// the rows of the table costs a number of 34 digits seventeen instructions more.
+ghost use Rattle.std.specs.Prelude.{◌≡◌, ◌^◌, ◌≤◌, ◌<◌, length};
 ghost use Rattle.meaning.specs.Writing.{decimal};
 ghost use Rattle.limbs.specs.Value.{value};
 ghost use Rattle.limbs.specs.Count.{Counts, Four};
 
 use crate::powers;
 
-// Of a number of one limb.
-fn in_limb(v: u32) -> usize
-    ensures { Counts v result × (result ≤ 10) }
-{
-    if v < 1000 {
-        if v < 10 {
-            1
-        } else if v < 100 {
-            2
-        } else {
-            3
-        }
-    } else if v < 1000000 {
-        if v < 10000 {
-            4
-        } else if v < 100000 {
-            5
-        } else {
-            6
-        }
-    } else if v < 100000000 {
-        if v < 10000000 { 7 } else { 8 }
-    } else {
-        if v < 1000000000 { 9 } else { 10 }
-    }
-}
-
 // Of a number of two limbs.
-fn in_u64(v: u64) -> usize
-    ensures { Counts v result }
+pub fn of_u64(v: u64) -> usize
+    ensures digits { result ≡ length (decimal v) }
+    ensures few { result ≤ 20 }
 {
-    if v < 1000000000 {
-        in_limb(v as u32)
-    } else if v < 1000000000000000000 {
-        9 + in_limb((v / 1000000000) as u32)
-    } else {
-        18 + in_limb((v / 1000000000000000000) as u32)
+    match v.checked_ilog10() {
+        Some(n) => n as usize + 1,
+        None => 1,
     }
 }
 
@@ -63,8 +35,8 @@ pub fn digits(c: [u32; 4]) -> usize
     requires { value c < 10 ^ 34 }
     ensures { result ≡ length (decimal (value c)) }
 {
-    if crate::fits_u64(c) {
-        return in_u64(crate::low(c));
+    if let Some(v) = crate::to_u64(c) {
+        return of_u64(v);
     }
     if crate::less(c, powers::TEN_27) {
         if crate::less(c, powers::TEN_23) {

@@ -1,9 +1,14 @@
-// Numbers below 2^128 as four limbs of 32 bits, by value, lowest limb first: what a `u128` is in the Rust.
+// Numbers below 2^128 as four limbs of 32 bits, by value, lowest limb first: what a `u128` is in the Rust. Document 01 names this
+// form, and all contracts above are about it.
 #![tactic(auto)]
 
-ghost use Rattle.std.specs.Prelude.{◌≡◌, ◌+◌, ◌-◌, ◌*◌, ◌/◌, ◌%◌, ◌^◌, ◌<◌, ◌≤◌, ltb};
+ghost use Rattle.std.specs.Prelude.{◌≡◌, ◌+◌, ◌-◌, ◌*◌, ◌/◌, ◌%◌, ◌^◌, ◌<◌, ◌≤◌, nat_lt, MatchOption};
+ghost use Rattle.std.specs.Ordering.{nat_cmp};
+ghost use Rattle.std.specs.Int.{from_bool};
+ghost use Rattle.std.specs.Option.{SomeIff};
 ghost use Rattle.limbs.specs.Value.{value};
-ghost use Rattle.limbs.specs.Order.{order};
+
+use std::cmp::Ordering;
 
 pub mod count;
 pub mod powers;
@@ -13,7 +18,7 @@ pub mod wide;
 pub fn of_u64(v: u64) -> [u32; 4]
     ensures { value result ≡ v }
 {
-    [(v % 0x1_0000_0000) as u32, (v / 0x1_0000_0000) as u32, 0, 0]
+    of_halves(v, 0)
 }
 
 // Two limbs as one number, x the lower.
@@ -49,24 +54,19 @@ pub fn of_halves(low: u64, high: u64) -> [u32; 4]
     ]
 }
 
-// The lower half is all there is.
-pub fn fits_u64(a: [u32; 4]) -> bool
-    ensures { result ≡ ltb (value a) (2 ^ 64) }
+// The number, where the lower half is all there is.
+pub fn to_u64(a: [u32; 4]) -> Option<u64>
+    ensures { SomeIff result (value a < 2 ^ 64) (value a) }
 {
-    if a[2] != 0 {
-        return false;
-    }
-    if a[3] != 0 {
-        return false;
-    }
-    true
+    if high(a) == 0 { Some(low(a)) } else { None }
 }
 
 // ---- order
 
-// a is below b.
+// a is below b, from the highest limb on; the derived order of arrays begins with the lowest. By halves, as in `compare`, a write takes
+// twelve instructions more.
 pub fn less(a: [u32; 4], b: [u32; 4]) -> bool
-    ensures { result ≡ ltb (value a) (value b) }
+    ensures { result ≡ nat_lt (value a) (value b) }
 {
     if a[3] != b[3] {
         return a[3] < b[3];
@@ -80,101 +80,68 @@ pub fn less(a: [u32; 4], b: [u32; 4]) -> bool
     a[0] < b[0]
 }
 
-#[derive(Clone, Copy)]
-pub enum Order {
-    Less,
-    Equal,
-    Greater,
-}
-
 // The order of a and b, by halves: a comparison has them in registers. Reader and writer have limbs in memory, and `less` is shorter
-// there.
-pub fn compare(a: [u32; 4], b: [u32; 4]) -> Order
-    ensures { result ≡ order (value a) (value b) }
+// there. Tests and no `high(a).cmp(&high(b)).then(..)`, which costs each pair three instructions more.
+pub fn compare(a: [u32; 4], b: [u32; 4]) -> Ordering
+    ensures { result ≡ nat_cmp (value a) (value b) }
 {
     let x = high(a);
     let y = high(b);
     if x != y {
         if x < y {
-            return Order::Less;
+            return Ordering::Less;
         }
-        return Order::Greater;
+        return Ordering::Greater;
     }
     let l = low(a);
     let k = low(b);
     if l < k {
-        return Order::Less;
+        return Ordering::Less;
     }
     if k < l {
-        return Order::Greater;
+        return Ordering::Greater;
     }
-    Order::Equal
+    Ordering::Equal
 }
 
 // ---- sums and products
 
-// One limb of a sum, a product or a difference, and what it hands to the next limb.
-#[derive(Clone, Copy)]
-pub struct Limb {
-    pub low: u32,
-    pub carry: u32,
-}
-
-// A number of four limbs, and what is above them.
-#[derive(Clone, Copy)]
-pub struct Carried {
-    pub low: [u32; 4],
-    pub carry: u32,
-}
-
-// x plus y, plus what is carried in.
-fn add_limb(x: u32, y: u32, carry: u32) -> Limb
-    ensures { result.low + 2 ^ 32 * result.carry ≡ x + y + carry }
+// a plus b, and what is carried out of the highest limb.
+pub fn add(a: [u32; 4], b: [u32; 4]) -> ([u32; 4], bool)
+    ensures { value result.0 + 2 ^ 128 * from_bool result.1 ≡ value a + value b }
 {
-    let t = x as u64 + y as u64 + carry as u64;
-    Limb {
-        low: (t % 0x1_0000_0000) as u32,
-        carry: (t / 0x1_0000_0000) as u32,
-    }
+    let (s0, c0) = a[0].carrying_add(b[0], false);
+    let (s1, c1) = a[1].carrying_add(b[1], c0);
+    let (s2, c2) = a[2].carrying_add(b[2], c1);
+    let (s3, c3) = a[3].carrying_add(b[3], c2);
+    ([s0, s1, s2, s3], c3)
 }
 
-// a plus b.
-pub fn add(a: [u32; 4], b: [u32; 4]) -> Carried
-    ensures { value result.low + 2 ^ 128 * result.carry ≡ value a + value b }
+// a plus b, where four limbs hold it.
+pub fn checked_add(a: [u32; 4], b: [u32; 4]) -> Option<[u32; 4]>
+    ensures { MatchOption result (2 ^ 128 ≤ value a + value b) (λ r. value r ≡ value a + value b) }
 {
-    let s0 = add_limb(a[0], b[0], 0);
-    let s1 = add_limb(a[1], b[1], s0.carry);
-    let s2 = add_limb(a[2], b[2], s1.carry);
-    let s3 = add_limb(a[3], b[3], s2.carry);
-    Carried {
-        low: [s0.low, s1.low, s2.low, s3.low],
-        carry: s3.carry,
-    }
+    let (sum, carry) = add(a, b);
+    if carry { None } else { Some(sum) }
 }
 
-// x times by, plus what is carried in.
-fn multiply_limb(x: u32, by: u32, carry: u32) -> Limb
-    ensures { result.low + 2 ^ 32 * result.carry ≡ x * by + carry }
+// a times by, plus more, and what is carried out of the highest limb.
+pub fn multiply(a: [u32; 4], by: u32, more: u32) -> ([u32; 4], u32)
+    ensures { value result.0 + 2 ^ 128 * result.1 ≡ value a * by + more }
 {
-    let t = x as u64 * by as u64 + carry as u64;
-    Limb {
-        low: (t % 0x1_0000_0000) as u32,
-        carry: (t / 0x1_0000_0000) as u32,
-    }
+    let (s0, c0) = a[0].carrying_mul(by, more);
+    let (s1, c1) = a[1].carrying_mul(by, c0);
+    let (s2, c2) = a[2].carrying_mul(by, c1);
+    let (s3, c3) = a[3].carrying_mul(by, c2);
+    ([s0, s1, s2, s3], c3)
 }
 
-// a times by, plus more.
-pub fn multiply(a: [u32; 4], by: u32, more: u32) -> Carried
-    ensures { value result.low + 2 ^ 128 * result.carry ≡ value a * by + more }
+// a times by, plus more, where four limbs hold it.
+pub fn checked_multiply(a: [u32; 4], by: u32, more: u32) -> Option<[u32; 4]>
+    ensures { MatchOption result (2 ^ 128 ≤ value a * by + more) (λ r. value r ≡ value a * by + more) }
 {
-    let s0 = multiply_limb(a[0], by, more);
-    let s1 = multiply_limb(a[1], by, s0.carry);
-    let s2 = multiply_limb(a[2], by, s1.carry);
-    let s3 = multiply_limb(a[3], by, s2.carry);
-    Carried {
-        low: [s0.low, s1.low, s2.low, s3.low],
-        carry: s3.carry,
-    }
+    let (product, carry) = multiply(a, by, more);
+    if carry == 0 { Some(product) } else { None }
 }
 
 // a with one more digit behind it.
@@ -182,8 +149,7 @@ pub fn times_ten_plus(a: [u32; 4], digit: u32) -> [u32; 4]
     requires { value a * 10 + digit < 2 ^ 128 }
     ensures { value result ≡ value a * 10 + digit }
 {
-    let m = multiply(a, 10, digit);
-    m.low
+    multiply(a, 10, digit).0
 }
 
 // a times by, and above that n, one limb further up.
@@ -191,103 +157,67 @@ fn times_limb(a: [u32; 4], by: u32, n: [u32; 4]) -> [u32; 4]
     requires { value a * by + 2 ^ 32 * value n < 2 ^ 128 }
     ensures { value result ≡ value a * by + 2 ^ 32 * value n }
 {
-    let m = multiply(a, by, 0);
-    let p = m.low;
-    let s = add(p, [0, n[0], n[1], n[2]]);
-    s.low
+    let (product, _) = multiply(a, by, 0);
+    add(product, [0, n[0], n[1], n[2]]).0
 }
 
-// a times b.
+// a times b, from the highest limb of b on.
 pub fn times(a: [u32; 4], b: [u32; 4]) -> [u32; 4]
     requires { value a * value b < 2 ^ 128 }
     ensures { value result ≡ value a * value b }
 {
-    let p3 = times_limb(a, b[3], [0, 0, 0, 0]);
-    let p2 = times_limb(a, b[2], p3);
-    let p1 = times_limb(a, b[1], p2);
-    times_limb(a, b[0], p1)
+    let mut product = [0, 0, 0, 0];
+    for i in (0..4).rev() {
+        let next = times_limb(a, b[i], product);
+        product = next;
+    }
+    product
 }
 
 // ---- differences
-
-// x less y, less what is owed; the carry is what the next limb then owes.
-fn subtract_limb(x: u32, y: u32, owed: u32) -> Limb
-    requires { owed < 2 }
-    ensures { (x + 2 ^ 32 * result.carry ≡ result.low + y + owed) × (result.carry < 2) }
-{
-    let t = 0x1_0000_0000 + x as u64 - y as u64 - owed as u64;
-    Limb {
-        low: (t % 0x1_0000_0000) as u32,
-        carry: 1 - (t / 0x1_0000_0000) as u32,
-    }
-}
 
 // a less b.
 pub fn subtract(a: [u32; 4], b: [u32; 4]) -> [u32; 4]
     requires { value b ≤ value a }
     ensures { value result ≡ value a - value b }
 {
-    let s0 = subtract_limb(a[0], b[0], 0);
-    let s1 = subtract_limb(a[1], b[1], s0.carry);
-    let s2 = subtract_limb(a[2], b[2], s1.carry);
-    let s3 = subtract_limb(a[3], b[3], s2.carry);
-    [s0.low, s1.low, s2.low, s3.low]
+    let (s0, c0) = a[0].borrowing_sub(b[0], false);
+    let (s1, c1) = a[1].borrowing_sub(b[1], c0);
+    let (s2, c2) = a[2].borrowing_sub(b[2], c1);
+    let (s3, _) = a[3].borrowing_sub(b[3], c2);
+    [s0, s1, s2, s3]
 }
 
 // ---- division
 
-// One limb of a quotient, and what is left for the next limb.
-#[derive(Clone, Copy)]
-pub struct DividedLimb {
-    pub quotient: u32,
-    pub rest: u32,
-}
-
-// A quotient, and the remainder.
-#[derive(Clone, Copy)]
-pub struct Divided {
-    pub quotient: [u32; 4],
-    pub rest: u32,
-}
-
-// One limb of a long division: the limb of the quotient, and what is left.
-fn divide_limb(rest: u32, limb: u32, by: u32) -> DividedLimb
+// One limb of a long division: the limb of the quotient, and what is left for the next limb.
+fn divide_limb(rest: u32, limb: u32, by: u32) -> (u32, u32)
     requires { rest < by }
-    ensures { (result.quotient * by + result.rest ≡ rest * 2 ^ 32 + limb) × (result.rest < by) }
+    ensures { (result.0 * by + result.1 ≡ rest * 2 ^ 32 + limb) × (result.1 < by) }
 {
-    let t = rest as u64 * 0x1_0000_0000 + limb as u64;
+    let t = pair(limb, rest);
     let d = by as u64;
-    DividedLimb {
-        quotient: (t / d) as u32,
-        rest: (t % d) as u32,
-    }
+    ((t / d) as u32, (t % d) as u32)
 }
 
-// a by a number of one limb, from the highest limb on.
-pub fn divide(a: [u32; 4], by: u32) -> Divided
+// The quotient and the remainder of a by a number of one limb, from the highest limb on.
+pub fn divide(a: [u32; 4], by: u32) -> ([u32; 4], u32)
     requires { 0 < by }
-    ensures { (value result.quotient ≡ value a / by) × (result.rest ≡ value a % by) }
+    ensures { (value result.0 ≡ value a / by) × (result.1 ≡ value a % by) }
 {
-    let s3 = divide_limb(0, a[3], by);
-    let s2 = divide_limb(s3.rest, a[2], by);
-    let s1 = divide_limb(s2.rest, a[1], by);
-    let s0 = divide_limb(s1.rest, a[0], by);
-    Divided {
-        quotient: [s0.quotient, s1.quotient, s2.quotient, s3.quotient],
-        rest: s0.rest,
-    }
+    let (q3, r3) = divide_limb(0, a[3], by);
+    let (q2, r2) = divide_limb(r3, a[2], by);
+    let (q1, r1) = divide_limb(r2, a[1], by);
+    let (q0, r0) = divide_limb(r1, a[0], by);
+    ([q0, q1, q2, q3], r0)
 }
 
-// a by ten; a number below 2^64 is divided at once.
-pub fn divide_by_ten(a: [u32; 4]) -> Divided
-    ensures { (value result.quotient ≡ value a / 10) × (result.rest ≡ value a % 10) × (result.rest < 10) }
+// The same by ten; a number below 2^64 is divided at once.
+pub fn divide_by_ten(a: [u32; 4]) -> ([u32; 4], u32)
+    ensures { (value result.0 ≡ value a / 10) × (result.1 ≡ value a % 10) × (result.1 < 10) }
 {
-    if fits_u64(a) {
-        let v = low(a);
-        return Divided {
-            quotient: of_u64(v / 10),
-            rest: (v % 10) as u32,
-        };
+    match to_u64(a) {
+        Some(v) => (of_u64(v / 10), (v % 10) as u32),
+        None => divide(a, 10),
     }
-    divide(a, 10)
 }

@@ -1,6 +1,6 @@
 // The powers of ten from 10^0 to 10^34, as rows of four limbs. A row by its name costs nothing, a row by a variable index
 // is copied, so the rows have names and the table is made of them.
-ghost use Rattle.std.specs.Prelude.{◌≡◌, ◌*◌, ◌^◌, ◌≤◌, ◌<◌, ltb};
+ghost use Rattle.std.specs.Prelude.{◌≡◌, ◌*◌, ◌^◌, ◌≤◌, ◌<◌, nat_lt};
 ghost use Rattle.limbs.specs.Value.{value};
 
 pub const TEN_0: [u32; 4] = [1, 0, 0, 0];
@@ -89,7 +89,7 @@ pub fn power(k: usize) -> [u32; 4]
 
 // c is a coefficient: at most 10^34 - 1.
 pub fn within(c: [u32; 4]) -> bool
-    ensures { result ≡ ltb (value c) (10 ^ 34) }
+    ensures { result ≡ nat_lt (value c) (10 ^ 34) }
 {
     crate::less(c, TEN_34)
 }

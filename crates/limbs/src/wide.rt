@@ -1,33 +1,30 @@
 // Exponents as written: a sign and four limbs, exact from -2^127 to 2^127-1, and what steps 5 to 10 need of them.
-ghost use Rattle.std.specs.Prelude.{◌≡◌, true, false, ℕ, ◌+◌, ◌-◌, ◌^◌, ◌≤◌, ◌<◌, min, length, drop, get_or, eqb};
-ghost use Rattle.meaning.specs.Reading.{Written, origin, is_digit, exponent};
+ghost use Rattle.std.specs.Prelude.{◌≡◌, ℕ, ◌+◌, ◌-◌, ◌^◌, ◌<◌};
+ghost use Rattle.meaning.specs.Reading.{Written, origin, exponent};
 ghost use Rattle.limbs.specs.Value.{value};
 ghost use Rattle.limbs.specs.Wide.{Signed, Spells, WrittenAs, signed, in_range, Stands, Raised, Narrowed, Lowered, stand_at};
 
-// The number that digits write, where it is one and below 2^128.
-#[derive(Clone, Copy)]
-pub struct Size {
-    pub good: bool,
-    pub limbs: [u32; 4],
+// Why an exponent can't be used.
+#[derive(Clone, Copy, Debug, PartialEq, Eq)]
+pub enum ExponentError {
+    // It is no whole number from -2^127 to 2^127-1.
+    Invalid,
+    // Less the digits after the point it is below -2^127.
+    Underflow,
 }
 
-// A written exponent, where it is one.
+// An exponent: its sign, and its size in four limbs or in 64 bits.
 #[derive(Clone, Copy)]
-pub struct Wide {
-    pub good: bool,
+pub struct Exponent<T> {
     pub negative: bool,
-    pub size: [u32; 4],
+    pub size: T,
 }
 
-// An exponent as steps 7 to 10 need it, or the number of a refusal and nothing else.
-#[derive(Clone, Copy)]
-pub struct Shift {
-    pub number: u32,
-    pub negative: bool,
-    pub size: u64,
-}
+// An exponent as steps 7 to 10 need it.
+pub type Shift = Exponent<u64>;
 
-// Where an exponent stands: the field, and by how much it is below -6176 or above 6111, up to 35.
+// Where an exponent stands: the field, and by how much it is below -6176 or above 6111, up to 35. Steps 9 and 10 cut and append as
+// many digits as these say, none where it is 0, and so ask for no case.
 #[derive(Clone, Copy)]
 pub struct Stand {
     pub field: u32,
@@ -37,74 +34,36 @@ pub struct Stand {
 
 // ---- step 5
 
-// b is `0` to `9`.
-fn is_digit(b: u8) -> bool
-    ensures { result ≡ is_digit b }
+// The number of the digits, after those that wrote start, where all are digits and it is below 2^128.
+fn digits_on(digits: &[u8], start: [u32; 4]) -> Option<[u32; 4]>
+    ensures { Spells (value start) digits.now result }
 {
-    if b < 48 {
-        return false;
+    let mut number = start;
+    for &b in digits {
+        if !b.is_ascii_digit() {
+            return None;
+        }
+        number = crate::checked_multiply(number, 10, (b - b'0') as u32)?;
     }
-    b <= 57
+    Some(number)
 }
 
-// No number: a byte is no digit, or 128 bits are passed.
-fn bad() -> Size
-    ensures { result.good ≡ false }
-{
-    Size {
-        good: false,
-        limbs: [0, 0, 0, 0],
-    }
-}
+// So many digits fit 64 bits, and more than these are rare. By `digits_on` alone a text with an exponent takes 48 instructions more.
+const FEW: usize = 18;
 
-// The digits from `from` on, after those that wrote start.
-fn digits_on(s: &[u8], from: usize, start: [u32; 4]) -> Size
-    requires { from ≤ length s.now }
-    ensures { Spells (value start) (drop from s.now) result.good (value result.limbs) }
+// The number of the digits, where all are digits and it is below 2^128.
+fn digits(s: &[u8]) -> Option<[u32; 4]>
+    ensures { Spells 0 s.now result }
 {
-    let mut acc = start;
-    let mut i = from;
-    while i < s.len() {
-        let b = s[i];
-        if !is_digit(b) {
-            return bad();
+    let few = s.len().min(FEW);
+    let mut number: u64 = 0;
+    for &b in &s[..few] {
+        if !b.is_ascii_digit() {
+            return None;
         }
-        let m = crate::multiply(acc, 10, (b - 48) as u32);
-        if m.carry != 0 {
-            return bad();
-        }
-        let next = m.low;
-        acc = next;
-        i += 1;
+        number = number * 10 + (b - b'0') as u64;
     }
-    Size {
-        good: true,
-        limbs: acc,
-    }
-}
-
-// The digits from `from` on: eighteen of them fit 64 bits, and more than these are rare.
-fn digits(s: &[u8], from: usize) -> Size
-    requires { from ≤ length s.now }
-    ensures { Spells 0 (drop from s.now) result.good (value result.limbs) }
-{
-    let mut acc: u64 = 0;
-    let mut i = from;
-    while i < s.len() {
-        let b = s[i];
-        if !is_digit(b) {
-            return bad();
-        }
-        if 18 <= i - from {
-            return digits_on(s, i, crate::of_u64(acc));
-        }
-        acc = acc * 10 + (b - 48) as u64;
-        i += 1;
-    }
-    Size {
-        good: true,
-        limbs: crate::of_u64(acc),
-    }
+    digits_on(&s[few..], crate::of_u64(number))
 }
 
 // 2^127.
@@ -115,144 +74,93 @@ fn in_range(negative: bool, size: [u32; 4]) -> bool
     ensures { result ≡ in_range negative (value size) }
 {
     if negative {
-        return !crate::less(ORIGIN, size);
-    }
-    crate::less(size, ORIGIN)
-}
-
-// No exponent is written.
-fn no_exponent() -> Wide
-    ensures { result.good ≡ false }
-{
-    Wide {
-        good: false,
-        negative: false,
-        size: [0, 0, 0, 0],
+        !crate::less(ORIGIN, size)
+    } else {
+        crate::less(size, ORIGIN)
     }
 }
 
-// What is written from `from` on, after the sign.
-fn unsigned(s: &[u8], from: usize, negative: bool) -> Wide
-    requires { from ≤ length s.now }
-    ensures { WrittenAs (signed negative (drop from s.now)) result }
+// What is written after the sign.
+fn unsigned(s: &[u8], negative: bool) -> Option<Exponent<[u32; 4]>>
+    ensures { WrittenAs (signed negative s.now) result }
 {
-    if s.len() <= from {
-        return no_exponent();
+    if s.is_empty() {
+        return None;
     }
-    let d = digits(s, from);
-    if !d.good {
-        return no_exponent();
-    }
-    let size = d.limbs;
-    if !in_range(negative, size) {
-        return no_exponent();
-    }
-    Wide {
-        good: true,
-        negative: negative,
-        size: size,
+    let size = digits(s)?;
+    if in_range(negative, size) {
+        Some(Exponent { negative, size })
+    } else {
+        None
     }
 }
 
-// Where the digits begin, after a sign at `at` if there is one.
-fn after_sign(s: &[u8], at: usize) -> usize
-    requires { at < length s.now }
-    ensures { (result ≤ length s.now) × (exponent (drop at s.now) ≡ signed (eqb (get_or s.now at 0) 45) (drop result s.now)) }
+// The exponent that is written, where it is one.
+fn written(s: &[u8]) -> Option<Exponent<[u32; 4]>>
+    ensures { WrittenAs (exponent s.now) result }
 {
-    if s[at] == 45 {
-        return at + 1;
+    match *s.first()? {
+        b'-' => unsigned(&s[1..], true),
+        b'+' => unsigned(&s[1..], false),
+        _ => unsigned(s, false),
     }
-    if s[at] == 43 {
-        return at + 1;
-    }
-    at
-}
-
-// The exponent part from `at` on, which is not empty.
-fn written(s: &[u8], at: usize) -> Wide
-    requires { at < length s.now }
-    ensures { WrittenAs (exponent (drop at s.now)) result }
-{
-    unsigned(s, after_sign(s, at), s[at] == 45)
 }
 
 // ---- step 6
-
-// A refusal, and nothing else.
-pub fn refused(number: u32) -> Shift
-    ensures { result.number ≡ number }
-{
-    Shift {
-        number: number,
-        negative: false,
-        size: 0,
-    }
-}
 
 // A size above 64 bits becomes the largest of 64 bits.
 fn narrow(negative: bool, size: [u32; 4]) -> Shift
     ensures { Narrowed negative (value size) result }
 {
-    if crate::fits_u64(size) {
-        return Shift {
-            number: 0,
-            negative: negative,
-            size: crate::low(size),
-        };
-    }
-    Shift {
-        number: 0,
-        negative: negative,
-        size: 0xffff_ffff_ffff_ffff,
+    Exponent {
+        negative,
+        size: crate::to_u64(size).unwrap_or(u64::MAX),
     }
 }
 
 // E less f.
-fn lowered(e: Wide, f: u64) -> Shift
+fn lowered(e: Exponent<[u32; 4]>, f: u64) -> Result<Shift, ExponentError>
     requires { f < 2 ^ 63 }
     ensures { (n : ℕ) → Signed e.negative (value e.size) n → Lowered (Written.written n) f result }
 {
     let size = e.size;
     let by = crate::of_u64(f);
     if e.negative {
-        let sum = crate::add(size, by);
-        if sum.carry != 0 {
-            return refused(5);
-        }
-        let total = sum.low;
+        let Some(total) = crate::checked_add(size, by) else {
+            return Err(ExponentError::Underflow);
+        };
         if !in_range(true, total) {
-            return refused(5);
+            return Err(ExponentError::Underflow);
         }
-        return narrow(true, total);
+        return Ok(narrow(true, total));
     }
     if crate::less(size, by) {
-        return narrow(true, crate::subtract(by, size));
+        Ok(narrow(true, crate::subtract(by, size)))
+    } else {
+        Ok(narrow(false, crate::subtract(size, by)))
     }
-    narrow(false, crate::subtract(size, by))
 }
 
 // Minus f: what step 6 gives where no exponent is written.
 pub fn minus(f: u64) -> Shift
     requires { f < 2 ^ 63 }
-    ensures { (result.number ≡ 0) × Stands (origin - f) result }
+    ensures { Stands (origin - f) result }
 {
-    Shift {
-        number: 0,
+    Exponent {
         negative: true,
         size: f,
     }
 }
 
-// Steps 5 and 6: the exponent part from `at` on, less f.
-pub fn exponent_less(s: &[u8], at: usize, f: u64) -> Shift
-    requires { (at < length s.now) × (f < 2 ^ 63) }
-    ensures { Lowered (exponent (drop at s.now)) f result }
+// Steps 5 and 6: the exponent part, less f.
+pub fn exponent_less(part: &[u8], f: u64) -> Result<Shift, ExponentError>
+    requires { f < 2 ^ 63 }
+    ensures { Lowered (exponent part.now) f result }
 {
-    let e = written(s, at);
-    if e.good {
-        return lowered(e, f);
+    match written(part) {
+        Some(e) => lowered(e, f),
+        None => Err(ExponentError::Invalid),
     }
-    refused(2)
 }
 
 // ---- steps 7 to 10
@@ -265,14 +173,12 @@ pub fn raised(x: Shift, cut: u64) -> Shift
     let size = x.size;
     if x.negative {
         if cut <= size {
-            return Shift {
-                number: 0,
+            return Exponent {
                 negative: true,
                 size: size - cut,
             };
         }
-        return Shift {
-            number: 0,
+        return Exponent {
             negative: false,
             size: cut - size,
         };
@@ -280,19 +186,13 @@ pub fn raised(x: Shift, cut: u64) -> Shift
     if 0x8000_0000_0000_0000 <= size {
         return x;
     }
-    Shift {
-        number: 0,
+    Exponent {
         negative: false,
         size: size + cut,
     }
 }
-
-// n, up to 35.
-fn up_to_35(n: u64) -> u32
-    ensures { result ≡ min 35 n }
-{
-    if n < 35 { n as u32 } else { 35 }
-}
+// More than 34 digits are never cut or padded, so no more is told.
+const MOST: u64 = 35;
 
 // Steps 7, 9 and 10: where x stands.
 pub fn place(x: Shift) -> Stand
@@ -309,7 +209,7 @@ pub fn place(x: Shift) -> Stand
         }
         return Stand {
             field: 0,
-            below: up_to_35(n - 6176),
+            below: (n - 6176).min(MOST) as u32,
             above: 0,
         };
     }
@@ -323,6 +223,6 @@ pub fn place(x: Shift) -> Stand
     Stand {
         field: 12287,
         below: 0,
-        above: up_to_35(n - 6111),
+        above: (n - 6111).min(MOST) as u32,
     }
 }

@@ -1,16 +1,10 @@
 -- Laws of a line's text: the CR that belongs to the line end, and what ends a line.
-use mathlib.Core.Path.{◌≡◌, refl, sym, ap, ◌∙◌}
-use mathlib.Core.Bool.{false, cond}
-use mathlib.Core.List.{List, [], ◌∷◌, ◌++◌, append_assoc, append-nil}
-use Prim.Native.Nat.{ℕ, suc, ◌+◌, ◌≤◌}
-use native.Mathlib.Omega.{arith}
-use lib.Dec.{eqb}
-use lib.ListN.{length, take, get_or, drop_of_length-le, length-append}
-use lib.Seq.{split_at}
-use borrow.Author.Tests.{eq-eqb, ne_eqb}
+use Rattle.std.proofs.Common.{ap₂, take-append-drop, ◌≡◌, refl, sym, ap, ◌∙◌, ⊎_elim, Bool, false, cond, ◌&&◌, List, [], ◌∷◌, ◌++◌, append_assoc, append-nil, ℕ, ◌+◌, ◌≤◌, arith, eqb, length, take, get_or, drop_of_length-le, length-append, ne_eqb, ◌-◌, true, drop, nat_eq, Option, Some, None, MatchOption, unwrap_or, Bor}
 use Rattle.meaning.specs.Reading.{holds}
 use Rattle.meaning.specs.Stream.{without_cr, lines_after}
-use Rattle.meaning.proofs.Numbers.{by_test, neither_of}
+use Rattle.meaning.proofs.Numbers.{by_test, neither_of, le_or}
+use Rattle.std.proofs.lemmas.List.{drop_more}
+use Rattle.std.specs.Cmp.Lexicographic.{pointwise}
 use Rattle.line.specs.Ends.{CrLfEnds, LfEnds, CrEndsTheLast, LastAsItStands}
 
 -- ---- the text of a line
@@ -23,23 +17,34 @@ text_of (b ∷ []) x = by_test (eqb x 13) (λ e. rw e) (λ e. rw e)
 text_of (b ∷ c ∷ s) x =
     ap (λ (l : List ℕ). b ∷ l) (text_of (c ∷ s) x) ∙ by_test (eqb x 13) (λ e. rw e) (λ e. rw e)
 
-last_apart : (t : List ℕ) (n : ℕ) → n + 1 ≡ length t → t ≡ take n t ++ get_or t n 0 ∷ []
-last_apart t n e =
-    split_at t n 0 (omega arith)
-    ∙ ap (λ (l : List ℕ). take n t ++ get_or t n 0 ∷ l) (drop_of_length-le t {i = suc n} (omega arith))
-
-pub cr_off : (t : List ℕ) (n : ℕ) → n + 1 ≡ length t → get_or t n 0 ≡ 13 → take n t ≡ without_cr t
-cr_off t n l e = sym (ap without_cr (last_apart t n l) ∙ text_of (take n t) (get_or t n 0) ∙ rw (eq-eqb (get_or t n 0) 13 e))
-
-pub no_cr : (t : List ℕ) (n : ℕ) → n + 1 ≡ length t → (get_or t n 0 ≡ 13 → ⊥) → t ≡ without_cr t
-no_cr t n l e =
-    let a = last_apart t n l in
-    a ∙ sym (ap without_cr a ∙ text_of (take n t) (get_or t n 0) ∙ rw (ne_eqb (get_or t n 0) 13 e))
-
 pub no_byte : (t : List ℕ) → length t ≡ 0 → t ≡ without_cr t
 unfolding without_cr
 no_byte [] e = refl
 no_byte (b ∷ s) e = absurd (omega arith)
+
+and-true : (b : Bool) → (b && true) ≡ b
+and-true true = refl
+and-true false = refl
+
+-- by the last byte as the code looks for it
+by_suffix : (t : List ℕ) (n : ℕ) → n + 1 ≡ length t → without_cr t ≡ cond (pointwise nat_eq (drop n t) (13 ∷ [])) (take n t) t
+by_suffix t n e =
+    let x = get_or t n 0 in
+    let last : drop n t ≡ x ∷ [] =
+    drop_more t n 0 (omega arith) ∙ ap (λ (l : List ℕ). x ∷ l) (drop_of_length-le t {i = n + 1} (omega arith)) in
+    let apart : take n t ++ x ∷ [] ≡ t = ap (λ (l : List ℕ). take n t ++ l) (sym last) ∙ take-append-drop n t in
+    let test : eqb x 13 ≡ pointwise nat_eq (drop n t) (13 ∷ []) =
+    sym (ap (λ (l : List ℕ). pointwise nat_eq l (13 ∷ [])) last ∙ and-true (eqb x 13)) in
+    ap without_cr (sym apart) ∙ text_of (take n t) x ∙ ap₂ (λ (b : Bool) (l : List ℕ). cond b (take n t) l) test apart
+
+pub cr_stripped : (o : Option (Bor (List ℕ))) (line : Bor (List ℕ)) → MatchOption o (pointwise nat_eq (drop (length line.now - 1) line.now) (13 ∷ []) ≡ false) (λ x. (pointwise nat_eq (drop (length line.now - 1) line.now) (13 ∷ []) ≡ true) × (x.now ≡ take (length line.now - 1) line.now) × (length x.now + 1 ≡ length line.now)) → (unwrap_or o line).now ≡ without_cr line.now
+cr_stripped None line none =
+    ⊎_elim
+    (λ l. no_byte line.now (omega arith))
+    (λ l. sym (by_suffix line.now (length line.now - 1) (omega arith) ∙ rw none))
+    (le_or (length line.now) 0)
+cr_stripped (Some x) line (cr, is, len) =
+    is ∙ sym (by_suffix line.now (length line.now - 1) (omega arith) ∙ rw cr)
 
 -- one byte is taken off at most
 pub one_off : (t : List ℕ) → length t ≤ length (without_cr t) + 1

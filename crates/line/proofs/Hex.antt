@@ -1,40 +1,17 @@
 -- Laws of hex digits: a line that is read digit by digit, and two digits a byte.
-use mathlib.Core.Path.{◌≡◌, refl, sym, ap, ◌∙◌}
-use mathlib.Core.Bool.{Bool, true, false, cond, ◌&&◌, true≢false}
-use mathlib.Core.List.{List, [], ◌∷◌}
-use Prim.Native.Nat.{ℕ, zero, suc, ◌+◌, ◌-◌, ◌*◌, ◌≤◌, ◌<◌}
-use native.Mathlib.Numerals.{add-one}
-use native.Mathlib.Omega.{arith}
-use lib.Dec.{ltb, leb}
-use lib.ListN.{length, take, drop, get_or, set, drop_of_length-le}
-use lib.Seq.{take-suc, take-suc-set, take_all, drop-cons}
-use borrow.Author.Tests.{lt-ltb, le-ltb, ltb-true, le-leb, lt-leb}
-use Rattle.meaning.specs.Reading.{lower}
+use Rattle.std.proofs.Common.{◌≡◌, refl, sym, ap, ◌∙◌, Bool, true, false, ◌&&◌, true≢false, List, [], ◌∷◌, ℕ, zero, suc, ◌+◌, ◌*◌, ◌≤◌, ◌<◌, add-one, arith, eqb, ltb, length, take, drop, get_or, set, drop_of_length-le, take-suc, take-suc-set, take_all, drop-cons, lt-ltb, ltb-true, eq-eqb}
+use Rattle.std.proofs.lemmas.Bool.{false_from_ne_true}
 use Rattle.meaning.specs.Stream.{hex_value, all_hex, unhex}
 
--- ---- one digit
-
-module _ (b : ℕ) where
-  pub below_digits : b < 48 → 16 ≡ hex_value b
-  below_digits h = simp (lt-leb 48 b h, lt-leb 65 b (omega arith), lt-leb 97 b (omega arith))
-
-  pub a_digit : 48 ≤ b → b ≤ 57 → b - 48 ≡ hex_value b
-  a_digit h k = simp (le-leb 48 b h, le-leb b 57 k)
-
-  module _ (h : 57 < b) {c : ℕ} (e : c ≡ lower b) where
-    as-letter : hex_value b ≡ cond (leb 97 c && leb c 102) (c - 87) 16
-    as-letter = simp (le-leb 48 b (omega arith), lt-leb b 57 h) (rw (← e))
-
-    pub below-letters : c < 97 → 16 ≡ hex_value b
-    below-letters l = sym (as-letter ∙ simp (lt-leb 97 c l))
-
-    pub above-letters : 97 ≤ c → 102 < c → 16 ≡ hex_value b
-    above-letters k l = sym (as-letter ∙ simp (le-leb 97 c k, lt-leb c 102 l))
-
-    pub a-letter : 97 ≤ c → c ≤ 102 → c - 87 ≡ hex_value b
-    a-letter k l = sym (as-letter ∙ simp (le-leb 97 c k, le-leb c 102 l))
-
 -- ---- digit by digit
+
+first_true : (a b : Bool) → (a && b) ≡ true → a ≡ true
+first_true true b e = refl
+first_true false b e = absurd (true≢false (sym e))
+
+second_true : (a b : Bool) → (a && b) ≡ true → b ≡ true
+second_true true b e = e
+second_true false b e = absurd (true≢false (sym e))
 
 module _ (s : List ℕ) (i : ℕ) (h : i < length s) where
   next : all_hex (drop i s) ≡ (ltb (hex_value (get_or s i 0)) 16 && all_hex (drop (i + 1) s))
@@ -44,22 +21,33 @@ module _ (s : List ℕ) (i : ℕ) (h : i < length s) where
   pub hex_here : hex_value (get_or s i 0) < 16 → all_hex (drop i s) ≡ all_hex (drop (i + 1) s)
   hex_here l = next ∙ rw (lt-ltb (hex_value (get_or s i 0)) 16 l)
 
-  pub hex_stops : 16 ≤ hex_value (get_or s i 0) → all_hex (drop i s) ≡ false
-  hex_stops l = next ∙ rw (le-ltb (hex_value (get_or s i 0)) 16 l)
+  pub hex_stops : (hex_value (get_or s i 0) < 16 → ⊥) → all_hex (drop i s) ≡ false
+  hex_stops n = next ∙ rw (false_from_ne_true (ltb (hex_value (get_or s i 0)) 16) (λ e. n (ltb-true (hex_value (get_or s i 0)) 16 e)))
 
 pub hex_all : (s : List ℕ) (i : ℕ) → length s ≤ i → all_hex (drop i s) ≡ true
 unfolding all_hex
 hex_all s i h = rw (drop_of_length-le s {i = i} h)
 
-both : (a b : Bool) → (a && b) ≡ true → (a ≡ true) × (b ≡ true)
-both true b e = (refl, e)
-both false b e = absurd (true≢false (sym e))
-
 pub hex_digit_lem : (s : List ℕ) (i : ℕ) → all_hex s ≡ true → i < length s → hex_value (get_or s i 0) < 16
 unfolding all_hex
 hex_digit_lem [] i e h = absurd (omega arith)
-hex_digit_lem (b ∷ s) zero e h = ltb-true (hex_value b) 16 (both (ltb (hex_value b) 16) (all_hex s) e).0
-hex_digit_lem (b ∷ s) (suc i) e h = hex_digit_lem s i (both (ltb (hex_value b) 16) (all_hex s) e).1 (omega arith)
+hex_digit_lem (b ∷ s) zero e h = ltb-true (hex_value b) 16 (first_true (ltb (hex_value b) 16) (all_hex s) e)
+hex_digit_lem (b ∷ s) (suc i) e h = hex_digit_lem s i (second_true (ltb (hex_value b) 16) (all_hex s) e) (omega arith)
+
+-- the two digits of a byte
+pub hex_pair : (s : List ℕ) (i : ℕ) → 2 * i + 1 < length s → hex_value (get_or s (2 * i) 0) < 16 → hex_value (get_or s (2 * i + 1) 0) < 16 → all_hex (drop (2 * (i + 1)) s) ≡ all_hex (drop (2 * i) s)
+hex_pair s i h high low =
+    let e : 2 * (i + 1) ≡ 2 * i + 1 + 1 = omega arith in
+    ap (λ (n : ℕ). all_hex (drop n s)) e
+    ∙ sym (hex_here s (2 * i) (omega arith) high ∙ hex_here s (2 * i + 1) h low)
+
+-- a line of 32 digits, and one that is none
+module _ (s : List ℕ) where
+  pub is_hex : length s ≡ 32 → all_hex s ≡ true → (eqb (length s) 32 && all_hex s) ≡ true
+  is_hex e h = rw (eq-eqb (length s) 32 e, h)
+
+  pub not_hex : all_hex s ≡ false → (eqb (length s) 32 && all_hex s) ≡ true → ⊥
+  not_hex e h = true≢false (sym (second_true (eqb (length s) 32) (all_hex s) h) ∙ e)
 
 -- ---- two digits a byte
 

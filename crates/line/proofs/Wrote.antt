@@ -1,14 +1,8 @@
 -- Laws of `Wrote`: a text that was put, one text behind another, and the records that are known beforehand.
-use mathlib.Core.Path.{◌≡◌, refl, sym, ap, ◌∙◌}
-use mathlib.Core.Bool.{true, false}
-use mathlib.Core.List.{List, [], ◌∷◌, ◌++◌, append_assoc, append-nil}
-use Prim.Native.Nat.{ℕ, ◌+◌, ◌-◌, ◌≤◌, ◌<◌}
-use native.Mathlib.Nat.{zero-add, add-zero}
-use native.Mathlib.Omega.{arith}
-use lib.ListN.{length, take, drop, set, length-append, length-drop, length-set, drop_of_length-le}
-use lib.Seq.{take_all, take_at, drop-drop, length-take-le}
-use borrow.Author.Tests.{le-leb, lt-leb, ne_eqb, eq-eqb}
+use Rattle.std.proofs.Common.{◌≡◌, refl, sym, ap, ◌∙◌, true, ◌&&◌, List, [], ◌∷◌, ◌++◌, append_assoc, append-nil, ℕ, ◌+◌, ◌-◌, ◌≤◌, ◌<◌, zero-add, add-zero, arith, length, take, drop, set, length-append, length-drop, length-set, drop_of_length-le, take_all, take_at, drop-drop, length-take-le, eqb, leb, leb-true, le-leb, ne_eqb, eq-eqb}
+use borrow.Author.Tests.{lt-leb}
 use borrow.Rule.Slice.PartMut.{mid_of, put_mid}
+use Rattle.std.proofs.lemmas.Bool.{false_from_ne_true}
 use Rattle.meaning.specs.Refusals.{number_of}
 use Rattle.meaning.specs.Layout.{stored, decode}
 use Rattle.meaning.specs.Reading.{read_at}
@@ -16,8 +10,10 @@ use Rattle.meaning.specs.Writing.{decimal, digits_before, write_text, debug_text
 use Rattle.meaning.specs.Answers.{number_given}
 use Rattle.meaning.specs.Stream.{record_text, unread, line_record, malformed, stored_record, all_hex, unhex}
 use Rattle.meaning.proofs.Fields.{decodes_in_range}
+use Rattle.meaning.proofs.Numbers.{by_test}
 use Rattle.meaning.proofs.Lengths.{text_has_at_most_42}
-use Rattle.writing.specs.declared.Put.{Put}
+use Rattle.std.specs.Prelude.{Result}
+use Rattle.writing.specs.declared.NoRoom.{NoRoom}
 use Rattle.writing.specs.Put.{put_of, placed, Puts}
 use Rattle.writing.specs.Written.{written}
 use Rattle.writing.proofs.Written.{follow, length-written, written_none, written_one}
@@ -60,7 +56,7 @@ unfolding written
 wrote_front {t = t} {b = b} k = rw (k.buffer, k.end, zero-add) (take_at t (drop (length t) b) (length t) refl)
 
 -- a text that had room was put whole
-pub put_whole : {t b a : List ℕ} {p : Put} {n : ℕ} → Puts t b p a → n ≡ put_length p → length t ≤ length b → Wrote 0 t b n a
+pub put_whole : {t b a : List ℕ} {p : Result ℕ NoRoom} {n : ℕ} → Puts t b p a → n ≡ put_length p → length t ≤ length b → Wrote 0 t b n a
 unfolding put_of placed written
 put_whole {t} {b} {n = n} k e h =
     let g = le-leb (length t) (length b) h in
@@ -84,10 +80,20 @@ wrote_in {t} b at {r} h k =
     }
 
 -- a text that was put there and had room
-pub put_in : {t a : List ℕ} {p : Put} {n : ℕ} (b : List ℕ) (at : ℕ) → Puts t (mid_of at (length b - at) b) p a → n ≡ put_length p → at + length t ≤ length b → Wrote at t b (at + n) (put_mid at (length b - at) b a)
+pub put_in : {t a : List ℕ} {p : Result ℕ NoRoom} {n : ℕ} (b : List ℕ) (at : ℕ) → Puts t (mid_of at (length b - at) b) p a → n ≡ put_length p → at + length t ≤ length b → Wrote at t b (at + n) (put_mid at (length b - at) b a)
 put_in b at k e h =
     let l : length (mid_of at (length b - at) b) ≡ length b - at = length-take-le (length b - at) (drop at b) (omega (arith, length-drop at b)) in
     wrote_in b at (omega arith) (put_whole k e (omega arith))
+
+-- whatever was put there ends in the buffer
+pub put_fits : {t a : List ℕ} {p : Result ℕ NoRoom} {n : ℕ} (b : List ℕ) (at : ℕ) → Puts t (mid_of at (length b - at) b) p a → n ≡ put_length p → at ≤ length b → at + n ≤ length b
+unfolding put_of
+put_fits {t} {n = n} b at k e h =
+    let part = mid_of at (length b - at) b in
+    let l : length part ≡ length b - at = length-take-le (length b - at) (drop at b) (omega (arith, length-drop at b)) in
+    by_test (leb (length t) (length part))
+    (λ fits. let m : n ≡ length t = e ∙ ap put_length k.answer ∙ simp fits in omega (arith, leb-true (length t) (length part) fits))
+    (λ none. let m : n ≡ 0 = e ∙ ap put_length k.answer ∙ simp none in omega arith)
 
 -- ---- the record of a stored value
 
@@ -122,10 +128,14 @@ module _ (s : List ℕ) where
   unfolding stored_record
   other_length h = rw (ne_eqb (length s) 32 h)
 
-  pub no_hex : length s ≡ 32 → all_hex s ≡ false → malformed ≡ stored_record s
-  unfolding stored_record
-  no_hex e h = rw (eq-eqb (length s) 32 e, h)
-
   pub all_hex_lem : length s ≡ 32 → all_hex s ≡ true → stored_text (unhex s) ≡ stored_record s
   unfolding stored_record stored_text
   all_hex_lem e h = rw (eq-eqb (length s) 32 e, h)
+
+  pub stored_accepted : (eqb (length s) 32 && all_hex s) ≡ true → stored_text (unhex s) ≡ stored_record s
+  unfolding stored_record stored_text
+  stored_accepted hex = rw hex
+
+  pub stored_malformed : ((eqb (length s) 32 && all_hex s) ≡ true → ⊥) → malformed ≡ stored_record s
+  unfolding stored_record
+  stored_malformed no_hex = rw (false_from_ne_true (eqb (length s) 32 && all_hex s) no_hex)

@@ -1,127 +1,77 @@
 // A stream handed over in chunks: lines are read in place where they lie whole in a chunk; the line that a chunk leaves
-// unended is gathered in a lent buffer of 4,097 bytes, its length beside it: room for the longest text and a CR, of which only
-// the next byte tells whether it belongs to the line end. 4,098 says that the line is longer.
-ghost use Rattle.std.specs.Prelude.{List, ◌++◌, ℕ, ◌+◌, ◌≤◌, ◌<◌, length};
-ghost use Rattle.std.proofs.Math.Seq.{slice};
-ghost use Rattle.meaning.specs.Stream.{without_cr};
-ghost use Rattle.line.specs.Wrote.{Wrote};
-ghost use Rattle.line.specs.Wanted.{record_for};
-ghost use Rattle.line.specs.Feed.{NextLf, Holds, Feeds, Finishes};
+// unended is kept for the next one.
+ghost use Rattle.std.specs.Prelude.{◌≡◌, ◌==◌, ◌+◌, ◌≤◌, ◌<◌, length, position, IfSome};
+ghost use Rattle.line.specs.Feed.{Feeds, Finishes};
 
-use crate::{Fed, Wanted, records};
-use writing::pieces;
+use crate::pending::Pending;
+use crate::records::{LONGEST_RECORD, Record};
 
-// The offset of the next LF from `from` on, or the length.
-fn next_lf(chunk: &[u8], from: usize) -> usize
-    requires { from ≤ length chunk.now }
-    ensures { NextLf chunk.now from result }
-{
-    let mut i = from;
-    while i < chunk.len() {
-        if chunk[i] == b'\n' {
-            return i;
-        }
-        i += 1;
-    }
-    i
+// How far a chunk was read, how many bytes of records stand in the output.
+#[derive(Clone, Copy, Debug, PartialEq, Eq)]
+pub struct Fed {
+    pub from: usize,
+    pub count: usize,
 }
 
-// chunk[from..to] behind the line that is held: how long it is then.
-fn gather(line: &mut [u8], len: usize, chunk: &[u8], from: usize, to: usize) -> usize
-    requires { (4097 ≤ length line.old) × (from ≤ to) × (to ≤ length chunk.now) }
-    ensures { (p : List ℕ) → Holds line.old len p → Holds line.new result (p ++ slice from to chunk.now) }
+// Where the first LF stands.
+fn next_lf(rest: &[u8]) -> Option<usize>
+    ensures first { result ≡ position (λ b. b == 10) rest.now }
+    ensures within { IfSome result (λ len. len < length rest.now) }
 {
-    if 4097 < len {
-        return 4098;
-    }
-    if 4097 - len < to - from {
-        return 4098;
-    }
-    pieces::put_all(line, len, &chunk[from..to]);
-    len + (to - from)
-}
-
-// The record of the line that ends at `to`.
-fn ended(
-    wanted: Wanted,
-    chunk: &[u8],
-    from: usize,
-    to: usize,
-    line: &mut [u8],
-    len: usize,
-    out: &mut [u8],
-) -> usize
-    requires { (4097 ≤ length line.old) × (from ≤ to) × (to ≤ length chunk.now) × (90 ≤ length out.old) }
-    ensures { (p : List ℕ) → Holds line.old len p → Wrote 0 (record_for wanted (without_cr (p ++ slice from to chunk.now))) out.old result out.new }
-{
-    if len == 0 {
-        return records::of_line(wanted, &chunk[from..to], out);
-    }
-    let whole = gather(line, len, chunk, from, to);
-    records::held(wanted, line, whole, out)
+    rest.iter().position(|b| *b == b'\n')
 }
 
 // One step: to behind the next LF, or to the chunk's end.
-fn advance(wanted: Wanted, chunk: &[u8], fed: Fed, line: &mut [u8], out: &mut [u8]) -> Fed
-    requires { (4097 ≤ length line.old) × (fed.from < length chunk.now) × (fed.count + 90 ≤ length out.old) }
-    ensures feeds { Feeds (record_for wanted) chunk.now fed line.old out.old result line.new out.new }
+fn advance<R: Record>(chunk: &[u8], fed: Fed, pending: &mut Pending, out: &mut [u8]) -> Fed
+    requires in_chunk { fed.from < length chunk.now }
+    requires room { fed.count + LONGEST_RECORD ≤ length out.old }
+    ensures feeds { Feeds R.record_for chunk.now fed pending.old out.old result pending.new out.new }
     ensures goes_on { fed.from < result.from }
 {
-    let from = fed.from;
-    let len = fed.len;
-    let count = fed.count;
-    let to = next_lf(chunk, from);
-    if to == chunk.len() {
-        let held = gather(line, len, chunk, from, to);
-        return Fed {
-            from: to,
-            len: held,
-            count: count,
-        };
-    }
-    let wrote = ended(wanted, chunk, from, to, line, len, &mut out[count..]);
-    Fed {
-        from: to + 1,
-        len: 0,
-        count: count + wrote,
+    let Fed { from, count } = fed;
+    let rest = &chunk[from..];
+    match next_lf(rest) {
+        Some(len) => {
+            let wrote = pending.end::<R>(&rest[..len], &mut out[count..]);
+            Fed {
+                from: from + len + 1,
+                count: count + wrote,
+            }
+        }
+        None => {
+            pending.extend(rest);
+            Fed {
+                from: chunk.len(),
+                count,
+            }
+        }
     }
 }
 
 // Takes lines from `from` on while they last and while `out` has room for a record. What it wrote stands at the front of
 // `out`; where the chunk is not used up it is called again.
-pub fn feed(
-    wanted: Wanted,
-    chunk: &[u8],
-    from: usize,
-    line: &mut [u8; 4097],
-    len: usize,
-    out: &mut [u8],
-) -> Fed
-    ensures feeds { Feeds (record_for wanted) chunk.now (record { from = from; len = len; count = 0 }) line.old out.old result line.new out.new }
-    ensures goes_on { from < length chunk.now → 90 ≤ length out.old → from < result.from }
+pub fn feed<R: Record>(chunk: &[u8], from: usize, pending: &mut Pending, out: &mut [u8]) -> Fed
+    ensures feeds { Feeds R.record_for chunk.now (record { from = from; count = 0 }) pending.old out.old result pending.new out.new }
+    ensures goes_on { from < length chunk.now → LONGEST_RECORD ≤ length out.old → from < result.from }
 {
-    let mut fed = Fed {
-        from: from,
-        len: len,
-        count: 0,
-    };
+    let mut fed = Fed { from, count: 0 };
+    // No `for`: each turn goes on to behind the next LF.
     while fed.from < chunk.len() {
-        if out.len() - fed.count < 90 {
+        if out.len() - fed.count < LONGEST_RECORD {
             return fed;
         }
-        let next = advance(wanted, chunk, fed, line, out);
-        fed = next;
+        fed = advance::<R>(chunk, fed, pending, out);
     }
     fed
 }
 
 // The record of the last line, where there is one that has no LF.
-pub fn finish(wanted: Wanted, line: &[u8; 4097], len: usize, out: &mut [u8]) -> usize
-    requires { 90 ≤ length out.old }
-    ensures { Finishes (record_for wanted) line.now len out.old result out.new }
+pub fn finish<R: Record>(pending: &Pending, out: &mut [u8]) -> usize
+    requires { LONGEST_RECORD ≤ length out.old }
+    ensures { Finishes R.record_for pending.now out.old result out.new }
 {
-    if 0 < len {
-        return records::held(wanted, line, len, out);
+    if pending.is_empty() {
+        return 0;
     }
-    0
+    pending.record::<R>(out)
 }

@@ -2,25 +2,12 @@
 #![tactic(auto)]
 
 mod feeding;
+mod pending;
 pub mod program;
 mod puts;
 mod records;
 mod stored;
 
-pub use feeding::{feed, finish};
-pub use records::record;
-
-// What is wanted of each line: the record of the text that it is, or of the stored value that its hex digits give.
-#[derive(Clone, Copy)]
-pub enum Wanted {
-    Texts,
-    Stored,
-}
-
-// How far a chunk was read, how long the line is that has not ended, how many bytes of records stand in the output.
-#[derive(Clone, Copy)]
-pub struct Fed {
-    pub from: usize,
-    pub len: usize,
-    pub count: usize,
-}
+pub use feeding::{Fed, feed, finish};
+pub use pending::Pending;
+pub use records::{LONGEST_RECORD, Record, Stored, Texts};

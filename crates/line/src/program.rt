@@ -1,133 +1,93 @@
 // The program over standard input and output: blocks are read and fed, and what each gives is written.
-ghost use Rattle.std.specs.Prelude.{◌≤◌, length};
+ghost use Rattle.std.specs.Prelude.{◌≤◌};
 
-use crate::{Wanted, feeding};
-use std::io::{Eprint, Input, Print, Read};
+use crate::{Pending, Record, feeding};
+use std::error::Error;
+use std::fmt;
+use std::io::{Read, Write};
 
-// Whether to go on, and how long the line is that has not ended.
-#[derive(Clone, Copy)]
-struct Went {
-    on: bool,
-    len: usize,
+// How many bytes are read at once, and at most written.
+const BLOCK: usize = 65536;
+
+// What ends the program before its input ends.
+#[derive(Clone, Copy, Debug)]
+enum Failure {
+    Input,
+    Output,
 }
 
-// `lines: standard output cannot be written`, on standard error. Where that cannot be written either, nothing is left to say.
-fn complain(rt: &impl Eprint, wanted: Wanted, what: &str) {
-    let name = match wanted {
-        Wanted::Texts => "lines",
-        Wanted::Stored => "stored",
-    };
-    let _ = eprintln!(rt; "{name}: standard {what}");
-}
-
-// The first n bytes of the output; false where they could not be written.
-fn write(rt: &(impl Print + Eprint), wanted: Wanted, out: &[u8], n: usize) -> bool
-    requires { n ≤ length out.now }
-{
-    let is_written = rt.write_all(&out[..n]).is_ok();
-    if !is_written {
-        complain(rt, wanted, "output cannot be written");
-    }
-    is_written
-}
-
-// All lines of a block.
-fn drain(
-    rt: &(impl Print + Eprint),
-    wanted: Wanted,
-    block: &[u8],
-    line: &mut [u8; 4097],
-    len: usize,
-    out: &mut [u8; 65536],
-) -> Went {
-    let mut from: usize = 0;
-    let mut held = len;
-    while from < block.len() {
-        let fed = feeding::feed(wanted, block, from, line, held, out);
-        if !write(rt, wanted, out, fed.count) {
-            return Went {
-                on: false,
-                len: held,
-            };
+impl fmt::Display for Failure {
+    fn fmt<W: fmt::Write>(&self, f: &mut fmt::Formatter<W>) -> fmt::Result {
+        match self {
+            Failure::Input => write!(f, "standard input cannot be read"),
+            Failure::Output => write!(f, "standard output cannot be written"),
         }
-        from = fed.from;
-        held = fed.len;
-    }
-    Went {
-        on: true,
-        len: held,
     }
 }
 
-// The lines of a block's first n bytes.
-fn drain_first(
-    rt: &(impl Print + Eprint),
-    wanted: Wanted,
-    block: &[u8],
-    n: usize,
-    line: &mut [u8; 4097],
-    len: usize,
-    out: &mut [u8; 65536],
-) -> Went
-    requires { n ≤ length block.now }
-{
-    drain(rt, wanted, &block[..n], line, len, out)
+impl Error for Failure {}
+
+// The program over a runtime: the line that has not ended, and room for what one call of `feed` writes.
+#[derive(Drop)]
+struct Program<'a, P> {
+    rt: &'a P,
+    pending: Pending,
+    out: [u8; BLOCK],
 }
 
-// The last line, at the end of the input.
-fn last(
-    rt: &(impl Print + Eprint),
-    wanted: Wanted,
-    line: &[u8; 4097],
-    len: usize,
-    out: &mut [u8; 65536],
-) {
-    let n = feeding::finish(wanted, line, len, out);
-    write(rt, wanted, out, n);
-}
-
-// One block of the input, or its end.
-fn turn(
-    rt: &(impl Print + Eprint),
-    input: &mut impl Read,
-    wanted: Wanted,
-    block: &mut [u8; 65536],
-    line: &mut [u8; 4097],
-    len: usize,
-    out: &mut [u8; 65536],
-) -> Went {
-    let Ok(n) = input.read(block) else {
-        complain(rt, wanted, "input cannot be read");
-        return Went {
-            on: false,
-            len: len,
-        };
-    };
-    if n == 0 {
-        last(rt, wanted, line, len, out);
-        return Went {
-            on: false,
-            len: len,
-        };
+impl<P: Print> Program<'_, P> {
+    // Writes what stands at the front of the output.
+    fn write(&self, count: usize) -> Result<(), Failure>
+        requires { count ≤ BLOCK }
+    {
+        self.rt
+            .write_all(&self.out[..count])
+            .map_err(|_| Failure::Output)
     }
-    drain_first(rt, wanted, block, n, line, len, out)
+
+    // All lines of a block.
+    fn feed<R: Record>(&mut self, block: &[u8]) -> Result<(), Failure> {
+        let mut from = 0;
+        // No `for`: each turn goes on by as much as `feed` took.
+        while from < block.len() {
+            let fed = feeding::feed::<R>(block, from, &mut self.pending, &mut self.out);
+            self.write(fed.count)?;
+            from = fed.from;
+        }
+        Ok(())
+    }
+
+    // The last line, at the end of the input.
+    fn finish<R: Record>(&mut self) -> Result<(), Failure> {
+        let count = feeding::finish::<R>(&self.pending, &mut self.out);
+        self.write(count)
+    }
 }
 
-// The whole of standard input. Nothing says that it ends, so the loop counts its turns down, from a number that no run
-// uses up.
-pub fn run(rt: &(impl Input + Print + Eprint), wanted: Wanted) {
+// The whole of standard input. Nothing says that it ends, so the blocks are counted, up to a number that no run reaches.
+fn copy<R: Record>(rt: &(impl Input + Print)) -> Result<(), Failure> {
     let mut input = rt.reader();
-    let mut block = [0u8; 65536];
-    let mut line = [0u8; 4097];
-    let mut out = [0u8; 65536];
-    let mut len: usize = 0;
-    let mut turns = u64::MAX;
-    while turns > 0 {
-        let went = turn(rt, &mut input, wanted, &mut block, &mut line, len, &mut out);
-        if !went.on {
-            return;
+    let mut block = [0u8; BLOCK];
+    let mut program = Program {
+        rt,
+        pending: Pending::new(),
+        out: [0; BLOCK],
+    };
+    for _ in 0..u64::MAX {
+        let n = input.read(&mut block).map_err(|_| Failure::Input)?;
+        if n == 0 {
+            return program.finish::<R>();
         }
-        len = went.len;
-        turns -= 1;
+        program.feed::<R>(&block[..n])?;
+    }
+    Ok(())
+}
+
+// The records of standard input. `lines: standard output cannot be written`, or the like, goes to standard error; where that
+// cannot be written either, nothing is left to say.
+pub fn run<R: Record>(rt: &(impl Input + Print + Eprint)) {
+    if let Err(failure) = copy::<R>(rt) {
+        let name = R::NAME;
+        let _ = eprintln!(rt; "{name}: {failure}");
     }
 }

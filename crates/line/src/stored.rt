@@ -1,75 +1,54 @@
 // A stored value as a line of 32 hex digits in either case, and its record.
-ghost use Rattle.std.specs.Prelude.{◌≡◌, true, ◌≤◌, length};
+ghost use Rattle.std.specs.Prelude.{◌==◌, ◌&&◌, ◌≤◌, ◌<◌, length, IsTrue};
+ghost use Rattle.std.specs.Option.{SomeIff};
 ghost use Rattle.meaning.specs.Stream.{hex_value, all_hex, unhex, malformed, stored_record};
 ghost use Rattle.line.specs.Wrote.{Wrote, stored_text};
 
 use crate::puts;
-use reading::words;
+use crate::records::LONGEST_RECORD;
+use decimal128::Decimal128;
 use writing::pieces;
 
-// The value of a hex digit; 16 for any other byte.
-fn hex_value(b: u8) -> u8
-    ensures { result ≡ hex_value b }
+// The value of a hex digit.
+fn hex_value(b: u8) -> Option<u8>
+    ensures { SomeIff result (hex_value b < 16) (hex_value b) }
 {
-    if b < b'0' {
-        return 16;
-    }
-    if b <= b'9' {
-        return b - b'0';
-    }
-    let letter = words::lower_case(b);
-    if letter < b'a' {
-        return 16;
-    }
-    if b'f' < letter {
-        return 16;
-    }
-    letter - 87
+    char::from(b).to_digit(16).map(|digit| digit as u8)
 }
 
-fn all_hex(s: &[u8]) -> bool
-    ensures { result ≡ all_hex s.now }
+// The bytes of 32 hex digits, two digits a byte, the higher one first: `403f..` -> 64, 63, ..
+fn unhex(text: &[u8]) -> Option<[u8; 16]>
+    ensures { SomeIff result (IsTrue (length text.now == 32 && all_hex text.now)) (unhex text.now) }
 {
-    let mut i = 0;
-    while i < s.len() {
-        if 15 < hex_value(s[i]) {
-            return false;
-        }
-        i += 1;
+    if text.len() != 32 {
+        return None;
     }
-    true
-}
-
-// Two digits a byte, the higher one first: `403f` -> 64, 63.
-fn unhex(s: &[u8]) -> [u8; 16]
-    requires { (length s.now ≡ 32) × (all_hex s.now ≡ true) }
-    ensures { result ≡ unhex s.now }
-{
-    let mut bytes = [0u8; 16];
-    let mut i = 0;
-    while i < 16 {
-        bytes[i] = 16 * hex_value(s[2 * i]) + hex_value(s[2 * i + 1]);
-        i += 1;
+    let mut bytes = [0; 16];
+    for i in 0..16 {
+        let high = hex_value(text[2 * i])?;
+        let low = hex_value(text[2 * i + 1])?;
+        bytes[i] = 16 * high + low;
     }
-    bytes
+    Some(bytes)
 }
 
 // `0`, the written text and the debug form, parted by tabs, and LF.
 fn accepted(bytes: [u8; 16], out: &mut [u8]) -> usize
-    requires { 90 ≤ length out.old }
+    requires { LONGEST_RECORD ≤ length out.old }
     ensures { Wrote 0 (stored_text bytes) out.old result out.new }
 {
-    pieces::put_two(out, 0, b'0', b'\t');
-    let text_end = puts::put_text(out, 2, bytes);
+    let value = Decimal128::from_bytes(bytes);
+    pieces::put_all(out, 0, b"0\t");
+    let text_end = puts::put_text(out, 2, value);
     out[text_end] = b'\t';
-    let end = puts::put_debug(out, text_end + 1, bytes);
+    let end = puts::put_debug(out, text_end + 1, value);
     out[end] = b'\n';
     end + 1
 }
 
 // 8, MalformedBytes.
 pub fn malformed(out: &mut [u8]) -> usize
-    requires { 90 ≤ length out.old }
+    requires { LONGEST_RECORD ≤ length out.old }
     ensures { Wrote 0 malformed out.old result out.new }
 {
     puts::put_known(out, b"8\t-\t-\n")
@@ -77,14 +56,11 @@ pub fn malformed(out: &mut [u8]) -> usize
 
 // The record of the stored value that 32 hex digits give; 8 for any other line.
 pub fn record(text: &[u8], out: &mut [u8]) -> usize
-    requires { 90 ≤ length out.old }
+    requires { LONGEST_RECORD ≤ length out.old }
     ensures { Wrote 0 (stored_record text.now) out.old result out.new }
 {
-    if text.len() != 32 {
-        return malformed(out);
+    match unhex(text) {
+        Some(bytes) => accepted(bytes, out),
+        None => malformed(out),
     }
-    if !all_hex(text) {
-        return malformed(out);
-    }
-    accepted(unhex(text), out)
 }

@@ -3,5 +3,5 @@
 #![tactic(auto)]
 
 fn main(rt: HostRuntime) {
-    line::program::run(&rt, line::Wanted::Texts);
+    line::program::run::<line::Texts>(&rt);
 }

@@ -2,110 +2,90 @@
 // parted by a tab. What it is run on in the gate, and must write, is made by tests/comparing/make-list from gcc's answers.
 #![tactic(auto)]
 
-ghost use Rattle.std.specs.Prelude.{◌+◌, ◌≤◌, length};
+ghost use Rattle.std.specs.Prelude.{◌≡◌, ◌+◌, ◌≤◌, length};
 
-use decimal128::{Compared, Decimal128};
-use std::io::{Eprint, Input, Print, Read};
-use writing::pieces;
+use decimal128::{Decimal128, NotOrdered};
+use std::cmp::Ordering;
+use std::io;
+use std::io::{Read, Write};
 
-fn sixteen(block: &[u8], at: usize) -> [u8; 16]
-    requires { at + 16 ≤ length block.now }
+// How many bytes are read at once, and at most written.
+const BLOCK: usize = 65536;
+
+// The record of an answer.
+fn record_of(answer: Result<Ordering, NotOrdered>) -> &'static [u8]
+    ensures { length result.now ≤ 5 }
 {
-    let mut bytes = [0u8; 16];
-    let mut i = 0;
-    while i < 16 {
-        bytes[i] = block[at + i];
-        i += 1;
+    match answer {
+        Ok(Ordering::Less) => b"0\t-1\n",
+        Ok(Ordering::Equal) => b"0\t0\n",
+        Ok(Ordering::Greater) => b"0\t1\n",
+        Err(NotOrdered) => b"11\t0\n",
     }
-    bytes
 }
 
 // The record behind what stands in the output: how much stands there then.
-fn put(out: &mut [u8], at: usize, answer: Compared) -> usize
-    requires { at + 5 ≤ length out.old }
-    ensures { result ≤ at + 5 }
+fn put(out: &mut [u8], at: usize, record: &[u8]) -> usize
+    requires { at + length «record».now ≤ length out.old }
+    ensures { result ≡ at + length «record».now }
 {
-    if answer.number != 0 {
-        pieces::put_all(out, at, b"11\t0\n");
-        return at + 5;
-    }
-    let order = answer.order;
-    if order == -1 {
-        pieces::put_all(out, at, b"0\t-1\n");
-        return at + 5;
-    }
-    if order == 0 {
-        pieces::put_all(out, at, b"0\t0\n");
-        return at + 4;
-    }
-    pieces::put_all(out, at, b"0\t1\n");
-    at + 4
+    let end = at + record.len();
+    out[at..end].copy_from_slice(record);
+    end
 }
 
-// The records of a block's first n bytes; what is left of a pair is 8, MalformedBytes.
-fn records(block: &[u8], n: usize, out: &mut [u8]) -> usize
-    requires { (n ≤ length block.now) × (n ≤ 65536) × (65536 ≤ length out.old) }
-    ensures { result ≤ 65536 }
+// The records of a block; what is left of a pair is 8, MalformedBytes.
+fn records(block: &[u8], out: &mut [u8; BLOCK]) -> usize
+    requires { length block.now ≤ BLOCK }
+    ensures { result ≤ BLOCK }
 {
-    let mut from: usize = 0;
-    let mut at: usize = 0;
-    while from + 32 <= n {
-        let a = Decimal128::from_bytes(sixteen(block, from));
-        let b = Decimal128::from_bytes(sixteen(block, from + 16));
-        let next = put(out, at, a.compare(b));
-        at = next;
-        from += 32;
+    let (values, _) = block.as_chunks::<16>();
+    let mut end = 0;
+    for pair in values.chunks_exact(2) {
+        let first = Decimal128::from_bytes(pair[0]);
+        let second = Decimal128::from_bytes(pair[1]);
+        end = put(out, end, record_of(first.compare(second)));
     }
-    if from < n {
-        pieces::put_all(out, at, b"8\t-\n");
-        return at + 4;
+    if block.len() % 32 != 0 {
+        end = put(out, end, b"8\t-\n");
     }
-    at
+    end
 }
 
 // Reads until the block is full, the input ends or a read fails: how many bytes stand in the block then.
-fn read_full(input: &mut impl Read, block: &mut [u8; 65536]) -> usize
-    ensures { result ≤ 65536 }
+fn read_full(input: &mut impl Read, block: &mut [u8; BLOCK]) -> usize
+    ensures { result ≤ BLOCK }
 {
-    let mut done: usize = 0;
-    while done < 65536 {
-        let Ok(n) = input.read(&mut block[done..]) else {
-            return done;
-        };
-        if n == 0 {
-            return done;
+    let mut done = 0;
+    // No `for`: each turn goes on by as much as was read.
+    while done < block.len() {
+        match input.read(&mut block[done..]) {
+            Ok(n) if n > 0 => done += n,
+            _ => return done,
         }
-        done += n;
     }
     done
 }
 
-// The first n bytes of the output; false where they could not be written.
-fn write(rt: &(impl Print + Eprint), out: &[u8], n: usize) -> bool
-    requires { n ≤ length out.now }
-{
-    let is_written = rt.write_all(&out[..n]).is_ok();
-    if !is_written {
-        let _ = eprintln!(rt; "orders: standard output cannot be written");
+// The records of standard input. Nothing says that it ends, so the blocks are counted, up to a number that no run reaches.
+fn answer_all(rt: &(impl Input + Print)) -> io::Result<()> {
+    let mut input = rt.reader();
+    let mut block = [0; BLOCK];
+    let mut out = [0; BLOCK];
+    for _ in 0..u64::MAX {
+        let n = read_full(&mut input, &mut block);
+        let end = records(&block[..n], &mut out);
+        rt.write_all(&out[..end])?;
+        if n < block.len() {
+            break;
+        }
     }
-    is_written
+    Ok(())
 }
 
-// Nothing says that the input ends, so the loop counts its turns down, from a number that no run uses up.
+// Where the error cannot be written either, nothing is left to say.
 fn main(rt: HostRuntime) {
-    let mut input = rt.reader();
-    let mut block = [0u8; 65536];
-    let mut out = [0u8; 65536];
-    let mut turns = u64::MAX;
-    while turns > 0 {
-        let n = read_full(&mut input, &mut block);
-        let end = records(&block, n, &mut out);
-        if !write(&rt, &out, end) {
-            return;
-        }
-        if n < 65536 {
-            return;
-        }
-        turns -= 1;
+    if answer_all(&rt).is_err() {
+        let _ = eprintln!(rt; "orders: standard output cannot be written");
     }
 }

@@ -3,32 +3,26 @@ use mathlib.Core.Path.{◌≡◌, refl, sym, ap, ◌∙◌}
 use mathlib.Core.Logic.{◌⊎◌, inl, inr, ⊎_elim}
 use mathlib.Core.Bool.{Bool, true, false, cond}
 use mathlib.Core.List.{List, [], ◌∷◌, ◌++◌}
-use Prim.Native.Nat.{ℕ, zero, suc, ◌+◌, ◌≤◌, ◌<◌}
-use native.Mathlib.Nat.{zero-add}
+use Prim.Native.Nat.{ℕ, ◌+◌, ◌-◌, ◌≤◌, ◌<◌}
 use native.Mathlib.Numerals.{add-one}
 use native.Mathlib.Omega.{arith}
 use lib.ListN.{length, get_or, take, drop, take-append-drop}
-use lib.Seq.{slice, slice-cons, drop-cons, take-suc, take-nil, take-take, drop-append-le, length-take-le}
+use lib.Seq.{slice, slice-cons, take-suc, take-take, drop-append-le, length-take-le}
 use borrow.Author.Tests.{eq-eqb, ne_eqb, eqb-true}
 use Rattle.meaning.specs.Reading.{is_digit, holds}
 use Rattle.meaning.proofs.Numbers.{byte_digit}
 use Rattle.reading.specs.Scan.{is_plain, decimals, first_at, second_at, points, unpointed}
 use Rattle.reading.specs.Run.{without}
+use Rattle.std.proofs.lemmas.Bool.{cases_Bool}
+use Rattle.std.proofs.lemmas.List.{drop-take}
 
 -- ---- cases
-
-pub true_or : (t : Bool) → (t ≡ true) ⊎ (t ≡ false)
-true_or true = inl refl
-true_or false = inr refl
 
 pub cond_same : {A : Type 0} (t : Bool) (a : A) → cond t a a ≡ a
 cond_same true a = refl
 cond_same false a = refl
 
 -- ---- a list at an offset
-
-pub drop_step : (s : List ℕ) (i : ℕ) → i < length s → drop i s ≡ get_or s i 0 ∷ drop (i + 1) s
-drop_step s i h = rw (add-one, drop-cons s i 0)
 
 pub slice_step : (f t : ℕ) (s : List ℕ) → f < t → t ≤ length s → slice f t s ≡ get_or s f 0 ∷ slice (f + 1) t s
 slice_step f t s h k = rw (add-one, slice-cons f t s 0 h k)
@@ -44,9 +38,11 @@ slice_parts f m t s h k l =
     ap (drop f) e ∙ rw drop-append-le
 
 pub take-drop : (n m : ℕ) (l : List ℕ) → take m (drop n l) ≡ slice n (n + m) l
-take-drop zero m l = rw zero-add
-take-drop (suc n) m [] = rw (take-nil, take-nil)
-take-drop (suc n) m (x ∷ l) = let e : suc n + m ≡ suc (n + m) = omega arith in rw e (take-drop n m l)
+take-drop n m l = sym (drop-take n m l)
+
+-- what a range of a slice is
+pub take-slice : (i t : ℕ) (s : List ℕ) → i ≤ t → take (t - i) (drop i s) ≡ slice i t s
+take-slice i t s h = let e : i + (t - i) ≡ t = omega arith in take-drop i (t - i) s ∙ rw e
 
 -- ---- a byte of a decimal part
 
@@ -63,7 +59,7 @@ pub digit_no_point : (b : ℕ) → is_digit b ≡ true → b ≡ 46 → ⊥
 digit_no_point b e q = let d = byte_digit b e in omega arith
 
 pub plain_or : (b : ℕ) → is_plain b ≡ true → (is_digit b ≡ true) ⊎ (b ≡ 46)
-plain_or b e = ⊎_elim (λ d. inl d) (λ d. inr (eqb-true b 46 (rw d at e))) (true_or (is_digit b))
+plain_or b e = ⊎_elim (λ d. inl d) (λ d. inr (eqb-true b 46 (rw d at e))) (cases_Bool (is_digit b))
 
 pub plain-below : (b : ℕ) → is_plain b ≡ true → b ≤ 57
 plain-below b e = ⊎_elim (λ d. (byte_digit b d).1) (λ q. omega arith) (plain_or b e)

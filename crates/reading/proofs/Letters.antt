@@ -1,53 +1,98 @@
 -- The letters of a text: the special words of step 2, and the first `e` of step 3.
-use mathlib.Core.Path.{◌≡◌, refl, ap, ◌∙◌}
+use mathlib.Core.Path.{◌≡◌, refl, sym, ap, ◌∙◌}
+use Rattle.std.specs.Prelude.{IsTrue, ◌↔◌, Some, None, position}
+use Rattle.std.specs.List.{position_or_len}
+use Rattle.std.specs.Char.{to_ascii_lowercase}
 use mathlib.Core.Logic.{⊎_elim}
-use mathlib.Core.Bool.{Bool, true, false, ◌&&◌, ◌||◌, cond, and-false}
+use mathlib.Core.Bool.{Bool, true, false, ◌||◌, cond, true≢false}
 use mathlib.Core.List.{List, [], ◌∷◌, map}
-use Prim.Native.Nat.{ℕ, suc, ◌+◌, ◌≤◌, ◌<◌}
+use Prim.Native.Nat.{ℕ, ◌+◌, ◌≤◌, ◌<◌}
 use native.Mathlib.Omega.{arith}
-use lib.Dec.{eqb}
-use lib.ListN.{length, get_or, drop, drop_of_length-le}
-use borrow.Author.Tests.{ne_eqb}
+use lib.Dec.{eqb, ltb}
+use lib.ListN.{length, get_or, drop, length-map}
+use borrow.Author.Tests.{eq-eqb, ne_eqb, eqb-true, ltb-true, ltb-false, le-leb, lt-leb, le-ltb, lt-ltb}
 use Rattle.meaning.specs.Reading.{refused_at, accepted_as, lower, bytes, same, before, from, decimal_part, step2, step3, step4, wrong_byte, sign_length, plain_bytes, read_at}
 use Rattle.meaning.specs.Refusals.Refusal.{unparseable}
 use Rattle.meaning.specs.Decimal.Decimal.{nan, infinity}
-use Rattle.reading.specs.Scan.{is_plain, decimals, first_at}
+use Rattle.meaning.proofs.Numbers.{both, le_or}
+use Rattle.reading.specs.Scan.{is_plain, is_e, decimals}
 use Rattle.reading.specs.Split.{start_of}
-use Rattle.reading.proofs.Bytes.{true_or, drop_step, plain-below, decimals_none, first_here, first_later}
+use Rattle.reading.proofs.Bytes.{plain-below, decimals_none}
 use Rattle.reading.proofs.Lower.{plain-lower}
+use Rattle.std.proofs.lemmas.Bool.{cases_Bool}
 
 -- ---- words
 
-pub same_other_length : (s t : List ℕ) → (length s ≡ length t → ⊥) → same (map lower s) t ≡ false
+pub lower_is : (b : ℕ) → to_ascii_lowercase b ≡ lower b
+lower_is b =
+    ⊎_elim
+    (λ (h : b ≤ 64). rw (lt-ltb b 65 (omega arith), lt-leb 65 b (omega arith)))
+    (λ (h : 64 < b).
+    ⊎_elim
+    (λ (k : b ≤ 90). rw (le-ltb b 65 (omega arith), lt-ltb b 91 (omega arith), le-leb 65 b (omega arith), le-leb b 90 k))
+    (λ (k : 90 < b). rw (le-ltb b 65 (omega arith), le-ltb b 91 (omega arith), le-leb 65 b (omega arith), lt-leb b 90 k))
+    (le_or b 90))
+    (le_or b 64)
+
+lowers_are : (s : List ℕ) → map to_ascii_lowercase s ≡ map lower s
+lowers_are [] = refl
+lowers_are (b ∷ s) = rw (lower_is b, lowers_are s)
+
+same_refl : (s : List ℕ) → same s s ≡ true
 unfolding same
-same_other_length [] [] h = absurd (h refl)
-same_other_length [] (y ∷ t) h = refl
-same_other_length (x ∷ s) [] h = refl
-same_other_length (x ∷ s) (y ∷ t) h = rw (same_other_length s t (λ e. h (ap suc e))) (and-false (eqb (lower x) y))
+same_refl [] = refl
+same_refl (b ∷ s) = rw (eq-eqb b b refl, same_refl s)
 
--- the first i bytes of the text from start on are those of the word
-module _ (s : List ℕ) (start : ℕ) (w : List ℕ) (i : ℕ) where
-  pub same_step : start + i < length s → i < length w → same (map lower (drop (start + i) s)) (drop i w) ≡ (eqb (lower (get_or s (start + i) 0)) (get_or w i 0) && same (map lower (drop (start + (i + 1)) s)) (drop (i + 1) w))
-  unfolding same
-  same_step h k =
-      let e : start + i + 1 ≡ start + (i + 1) = omega arith in rw (drop_step s (start + i) h, drop_step w i k, e)
+same_true : (s t : List ℕ) → same s t ≡ true → s ≡ t
+unfolding same
+same_true [] [] e = refl
+same_true [] (y ∷ t) e = absurd (true≢false (sym e))
+same_true (x ∷ s) [] e = absurd (true≢false (sym e))
+same_true (x ∷ s) (y ∷ t) e =
+    let h = both (eqb x y) (same s t) e in
+    let p = eqb-true x y h.0 in
+    let q = same_true s t h.1 in
+    cc
 
-  pub same_end : length s ≤ start + i → length w ≤ i → same (map lower (drop (start + i) s)) (drop i w) ≡ true
-  unfolding same
-  same_end h k = rw (drop_of_length-le s h, drop_of_length-le w k)
+-- what a comparison in either case tells of a word in lower case
+pub word_is : (r : Bool) (s w : List ℕ) → (IsTrue r ↔ (map to_ascii_lowercase s ≡ map to_ascii_lowercase w)) → map lower w ≡ w → r ≡ same (map lower s) w
+word_is true s w h e =
+    let q : map lower s ≡ w = sym (lowers_are s) ∙ h.0 refl ∙ lowers_are w ∙ e in sym (rw q (same_refl w))
+word_is false s w h e =
+    ⊎_elim
+    (λ t. absurd (true≢false (sym (h.1 (lowers_are s ∙ same_true _ _ t ∙ sym e ∙ sym (lowers_are w))))))
+    (λ f. sym f)
+    (cases_Bool (same (map lower s) w))
 
 -- ---- the first `e`
 
-module _ (s : List ℕ) (n i : ℕ) (h : i < length s) where
-  pub e_here : lower (get_or s i 0) ≡ 101 → first_at 101 n i (map lower (drop i s)) ≡ i
-  e_here e = rw (drop_step s i h) (first_here 101 n i _ _ e)
+pub is_e-lower : (b : ℕ) → is_e b ≡ eqb (lower b) 101
+is_e-lower b = rw lower_is
 
-  pub e_later : (lower (get_or s i 0) ≡ 101 → ⊥) → first_at 101 n i (map lower (drop i s)) ≡ first_at 101 n (i + 1) (map lower (drop (i + 1) s))
-  e_later e = rw (drop_step s i h) (first_later 101 n i _ _ e)
+-- where it stands, and what is left from there on
+from_length : (s : List ℕ) → length (from 101 (map lower s)) + position_or_len is_e s ≡ length s
+unfolding from
+from_length [] = refl
+from_length (b ∷ s) =
+    ⊎_elim
+    (λ (e : is_e b ≡ true). rw (← is_e-lower b, e) (omega (arith, length-map s lower)))
+    (λ (e : is_e b ≡ false). rw (← is_e-lower b, e) (omega (arith, from_length s)))
+    (cases_Bool (is_e b))
 
-pub e_none : (s : List ℕ) (n i : ℕ) → length s ≤ i → first_at 101 n i (map lower (drop i s)) ≡ n
-unfolding first_at
-e_none s n i h = rw (drop_of_length-le s h)
+pub e_found : (s : List ℕ) (i : ℕ) → Some i ≡ position is_e s → (i < length s) × (length (from 101 (map lower s)) + i ≡ length s)
+e_found s i e =
+    ⊎_elim
+    (λ t. let p : i ≡ position_or_len is_e s = (let q = rw t at e in cc) in
+    let l = ltb-true _ _ t in (rw p l, rw p (from_length s)))
+    (λ f. absurd (let q = rw f at e in cc))
+    (cases_Bool (ltb (position_or_len is_e s) (length s)))
+
+pub e_missing : (s : List ℕ) → None ≡ position is_e s → length (from 101 (map lower s)) ≡ 0
+e_missing s e =
+    ⊎_elim
+    (λ t. absurd (let q = rw t at e in cc))
+    (λ f. let l = ltb-false _ _ f in omega (arith, from_length s))
+    (cases_Bool (ltb (position_or_len is_e s) (length s)))
 
 -- ---- step 2
 
@@ -88,11 +133,7 @@ no_word text g (x ∷ l) n =
     rw (plain-lower x e)
     (number_is text g (x ∷ map lower l) (other_word x 110 _ _ (omega arith)) (other_word x 115 _ _ (omega arith)) (other_word x 105 _ _ (omega arith)) (other_word x 105 _ _ (omega arith))))
     (λ e. absurd (n (ap length (decimals_none x l e))))
-    (true_or (is_plain x))
-
-pub no_length : (l : List ℕ) → length l ≡ 0 → l ≡ []
-no_length [] e = refl
-no_length (x ∷ l) e = absurd (omega arith)
+    (cases_Bool (is_plain x))
 
 -- ---- step 1
 
@@ -112,8 +153,5 @@ signed (b ∷ s) h = go (eqb b 45) (eqb b 43)
     go false false = refl
 
 module _ (s : List ℕ) (h : 0 < length s) (r : ℕ) (e : r ≡ start_of (get_or s 0 0)) where
-  pub start_within : r ≤ length s
-  start_within = rw e (⊎_elim (λ q. rw q h) (λ q. rw q (omega arith)) (true_or (eqb (get_or s 0 0) 45 || eqb (get_or s 0 0) 43)))
-
   pub read_start : read_at s ≡ step2 s (eqb (get_or s 0 0) 45) (map lower (drop r s))
   read_start = signed s h ∙ rw e

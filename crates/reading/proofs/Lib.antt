@@ -5,10 +5,12 @@ pub mod Walk
 pub mod Rows
 pub mod Letters
 pub mod Split
-pub mod Names
 pub mod Steps
 pub mod Points
 pub mod Cut
 pub mod Lower
 pub mod Where
 pub mod Shifts
+pub mod Giving
+pub mod Whole
+pub mod Names

@@ -10,7 +10,8 @@ use borrow.Author.Tests.{ne_eqb, le-leb, lt-leb, leb-true}
 use Rattle.meaning.specs.Reading.{is_digit, lower, all_digits, some_digits, upward, downward, exponent, Written}
 use Rattle.meaning.proofs.Numbers.{both, byte_digit}
 use Rattle.reading.specs.Scan.{is_plain}
-use Rattle.reading.proofs.Bytes.{true_or, plain-below}
+use Rattle.reading.proofs.Bytes.{plain-below}
+use Rattle.std.proofs.lemmas.Bool.{cases_Bool}
 
 -- a byte is left as it is, or it is a letter, before and after
 lower_or : (b : ℕ) → (lower b ≡ b) ⊎ ((58 ≤ b) × (58 ≤ lower b))
@@ -29,7 +30,7 @@ pub lower-plain : (b : ℕ) → is_plain b ≡ false → is_plain (lower b) ≡ 
 lower-plain b e =
     ⊎_elim
     (λ q. ap is_plain q ∙ e)
-    (λ h. ⊎_elim (λ p. absurd (omega (arith, h.1, plain-below (lower b) p))) (λ p. p) (true_or (is_plain (lower b))))
+    (λ h. ⊎_elim (λ p. absurd (omega (arith, h.1, plain-below (lower b) p))) (λ p. p) (cases_Bool (is_plain (lower b))))
     (lower_or b)
 
 no_digit : (b : ℕ) → 58 ≤ b → is_digit b ≡ false
@@ -77,7 +78,7 @@ module _ (f : List ℕ → Written) (none : (s t : List ℕ) → some_digits s �
       ⊎_elim
       (λ e. ap f (digits_same s (some_all s e)))
       (λ e. none (map lower s) s (some_lower s ∙ e) e)
-      (true_or (some_digits s))
+      (cases_Bool (some_digits s))
 
 upward-lower : (s : List ℕ) → upward (map lower s) ≡ upward s
 upward-lower = read_lower upward (λ s t p q. simp (p, q))

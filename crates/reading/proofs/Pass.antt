@@ -1,6 +1,6 @@
 -- One step of the pass over the decimal part, its start and its end.
 use mathlib.Core.Path.{◌≡◌, refl, sym, ap, ◌∙◌}
-use mathlib.Core.Logic.{inl, inr, ⊎_elim}
+use mathlib.Core.Logic.{⊎_elim}
 use mathlib.Core.Bool.{true, cond}
 use mathlib.Core.List.{List, [], ◌∷◌, ◌++◌}
 use Prim.Native.Nat.{ℕ, zero, suc, ◌+◌, ◌-◌, ◌*◌, ◌^◌, ◌≤◌, ◌<◌}
@@ -13,20 +13,36 @@ use borrow.Author.Tests.{ne_eqb}
 use Rattle.meaning.specs.Reading.{is_digit, number}
 use Rattle.meaning.proofs.Numbers.{le_or, byte_digit, number_append, pow-le, eq_or}
 use Rattle.reading.specs.declared.scan.Found.{Found}
-use Rattle.reading.specs.declared.scan.Spans.{Spans}
-use Rattle.reading.specs.Scan.{is_plain, decimals, first_at, second_at, points, unpointed, none_found, with_digit, with_point, Passing, Added, Stopped, Scanned}
-use Rattle.reading.proofs.Bytes.{cond_same, drop_step, slice_more, digit_plain, point_plain, digit_no_point, decimals_more, decimals_none, points_more, points-same, unpointed_less, unpointed_more, first_here, first_later, second_next, second_later}
+use Rattle.reading.specs.Scan.{is_plain, decimals, first_at, second_at, points, unpointed, none_found, with_digit, with_point, Stopped, Scanned}
+use Rattle.reading.proofs.Bytes.{cond_same, slice_more, digit_plain, point_plain, digit_no_point, decimals_more, decimals_none, points_more, points-same, unpointed_less, unpointed_more, first_here, first_later, second_next, second_later}
+use Rattle.std.proofs.lemmas.List.{drop_more}
+
+-- ---- the pass
+
+-- at offset i: what it has found, and finds in the decimal part that is left, is what there is from start on
+pub record Passing (s : List ℕ) (start i : ℕ) (m : Found) : Type 0 where
+  pub after : start ≤ i
+  pub within : i ≤ length s
+  pub few : m.points ≤ i
+  pub stop : i + length (decimals (drop i s)) ≡ start + length (decimals (drop start s))
+  pub points : m.points + points (decimals (drop i s)) ≡ points (decimals (drop start s))
+  pub point : cond (eqb m.points 0) (first_at 46 m.point i (decimals (drop i s))) m.point ≡ first_at 46 (length s) start (decimals (drop start s))
+  pub second : cond (eqb m.points 0) (second_at m.second i (decimals (drop i s))) (cond (eqb m.points 1) (first_at 46 m.second i (decimals (drop i s))) m.second) ≡ second_at (length s) start (decimals (drop start s))
+
+-- the value is that of the digits up to i
+pub record Added (s : List ℕ) (start i : ℕ) (m : Found) : Type 0 where
+  pub value : m.value ≡ number 0 (unpointed (slice start i s))
+  pub small : m.value < 10 ^ (i - start)
 
 -- ---- the decimal part
 
 decimals-plain : (s : List ℕ) (i : ℕ) → i < length s → is_plain (get_or s i 0) ≡ true → decimals (drop i s) ≡ get_or s i 0 ∷ decimals (drop (i + 1) s)
-decimals-plain s i h e = rw (drop_step s i h) (decimals_more (get_or s i 0) (drop (i + 1) s) e)
+decimals-plain s i h e = rw (drop_more s i 0 h) (decimals_more (get_or s i 0) (drop (i + 1) s) e)
 
 decimals_stop : (s : List ℕ) (i : ℕ) → Stopped s i → decimals (drop i s) ≡ []
 unfolding decimals
-decimals_stop s i (inl l) = rw (drop_of_length-le s l)
-decimals_stop s i (inr e) =
-    ⊎_elim (λ l. rw (drop_of_length-le s l)) (λ h. rw (drop_step s i h) (decimals_none (get_or s i 0) (drop (i + 1) s) e)) (le_or (length s) i)
+decimals_stop s i t =
+    ⊎_elim (λ l. rw (drop_of_length-le s l)) (λ h. rw (drop_more s i 0 h) (decimals_none (get_or s i 0) (drop (i + 1) s) (t h))) (le_or (length s) i)
 
 -- ---- the pass
 
@@ -131,14 +147,14 @@ module _ (s : List ℕ) (start i : ℕ) (m : Found) (a : Added s start i m) (l :
 
 -- ---- the pass as a whole
 
-module _ (s : List ℕ) (start : ℕ) (d : Spans) (p : Passing s start d.stop d.found) (t : Stopped s d.stop) where
-  scanned_with : (length s ≤ start + 19 → d.found.value ≡ number 0 (unpointed (slice start d.stop s))) → Scanned s start d
+module _ (s : List ℕ) (start stop : ℕ) (found : Found) (p : Passing s start stop found) (t : Stopped s stop) where
+  scanned_with : (length s ≤ start + 19 → found.value ≡ number 0 (unpointed (slice start stop s))) → Scanned s start stop found
   scanned_with v =
-      let e = passing_end s start d.stop d.found p t in
-      record { stop = e.stop; points = e.points; point = e.point; second = e.second; value = v; ended = t }
+      let e = passing_end s start stop found p t in
+      record { stops = e.stop; points = e.points; point = e.point; second = e.second; value = v; ended = t }
 
-  pub scanned_short : Added s start d.stop d.found → Scanned s start d
+  pub scanned_short : Added s start stop found → Scanned s start stop found
   scanned_short a = scanned_with (λ _. a.value)
 
-  pub scanned_long : start + 19 < length s → Scanned s start d
+  pub scanned_long : start + 19 < length s → Scanned s start stop found
   scanned_long h = scanned_with (λ k. absurd (omega arith))

@@ -11,12 +11,13 @@ use lib.Seq.{slice, take-take}
 use borrow.Author.Tests.{eqb-true, le-ltb, lt-ltb}
 use Rattle.meaning.specs.Reading.{is_digit, all_digits, all_zeros, strip_zeros, holds}
 use Rattle.meaning.proofs.Numbers.{both, both_of, eq_or}
-use Rattle.reading.specs.declared.scan.Spans.{Spans}
+use Rattle.reading.specs.declared.scan.Found.{Found}
 use Rattle.reading.specs.Scan.{is_plain, all_plain, decimals, first_at, second_at, points, unpointed, Scanned}
 use Rattle.reading.specs.Run.{without, run, ZerosTo, Walked}
-use Rattle.reading.proofs.Bytes.{true_or, take-drop, digit_no_point, plain_or, points_more, points-same, unpointed_less, unpointed_more, holds_here, holds_later, first_here, first_later, second_next, second_later, without_skip, without-take}
+use Rattle.reading.proofs.Bytes.{take-drop, digit_no_point, plain_or, points_more, points-same, unpointed_less, unpointed_more, holds_here, holds_later, first_here, first_later, second_next, second_later, without_skip, without-take}
 use Rattle.reading.proofs.Walk.{run_parts}
 use Rattle.reading.proofs.Split.{points_few, first_low, without_here, without_later, decimals_all, decimals-slice, decimals-length}
+use Rattle.std.proofs.lemmas.Bool.{cases_Bool}
 
 -- ---- the first k bytes of a list whose first byte stands at i
 
@@ -139,71 +140,71 @@ plain_digits (x ∷ l) p e =
     (plain_or x h.0)
 
 -- the bytes up to t are digits where the second point is not among them
-pub walked_digits : (s : List ℕ) (i t : ℕ) (d : Spans) → Walked s i d → i ≤ t → t ≤ d.stop → t ≤ d.found.second → all_digits (run d.found.point i t s) ≡ true
-walked_digits s i t d w h k l =
-    let p = d.found.point in
-    let e = run_parts p i t d.stop s h k w.within in
-    plain_digits (run p i t s) (plain_parts (run p i t s) (run p t d.stop s) (rw e at w.plain)).0 (w.second t h k ∙ le-ltb _ _ l)
+pub walked_digits : (s : List ℕ) (i t : ℕ) (stop : ℕ) (found : Found) → Walked s i stop found → i ≤ t → t ≤ stop → t ≤ found.second → all_digits (run found.point i t s) ≡ true
+walked_digits s i t stop found w h k l =
+    let p = found.point in
+    let e = run_parts p i t stop s h k w.within in
+    plain_digits (run p i t s) (plain_parts (run p i t s) (run p t stop s) (rw e at w.plain)).0 (w.second t h k ∙ le-ltb _ _ l)
 
 -- ---- what is scanned can be walked
 
-module _ (s : List ℕ) (start : ℕ) (d : Spans) (c : Scanned s start d) (h : start ≤ length s) where
+module _ (s : List ℕ) (start : ℕ) (stop : ℕ) (found : Found) (c : Scanned s start stop found) (h : start ≤ length s) where
   abbrev pub part : List ℕ
   part = decimals (drop start s)
 
   pub fits : start + length part ≤ length s
   fits = omega (arith, decimals-length (drop start s), length-drop start s)
 
-  pub stop_low : start ≤ d.stop
-  stop_low = omega (arith, c.stop)
+  pub stop_low : start ≤ stop
+  stop_low = omega (arith, c.stops)
 
-  pub stop_within : d.stop ≤ length s
-  stop_within = rw c.stop fits
+  pub stop_within : stop ≤ length s
+  stop_within = rw c.stops fits
 
-  pub points_width : d.found.points ≤ d.stop - start
-  points_width = omega (arith, points_few part, c.points, c.stop)
+  pub points_width : found.points ≤ stop - start
+  points_width = omega (arith, points_few part, c.points, c.stops)
 
-  pub fraction_few : d.stop - (d.found.point + 1) ≤ d.stop - start
+  pub fraction_few : stop - (found.point + 1) ≤ stop - start
   fraction_few = omega (arith, first_low 46 (length s) start part fits, c.point)
 
-  part_slice : part ≡ slice start d.stop s
-  part_slice = decimals-slice s start ∙ rw c.stop
+  part_slice : part ≡ slice start stop s
+  part_slice = decimals-slice s start ∙ rw c.stops
 
-  slice-take : (t : ℕ) → start ≤ t → t ≤ d.stop → slice start t s ≡ take (t - start) part
+  slice-take : (t : ℕ) → start ≤ t → t ≤ stop → slice start t s ≡ take (t - start) part
   slice-take t k l =
       let e : start + (t - start) ≡ t = omega arith in
-      sym (ap (take (t - start)) part_slice ∙ take-drop start (t - start) (take d.stop s) ∙ rw (e, take-take))
+      sym (ap (take (t - start)) part_slice ∙ take-drop start (t - start) (take stop s) ∙ rw (e, take-take))
 
-  run_part : (t : ℕ) → start ≤ t → t ≤ d.stop → run d.found.point start t s ≡ without (first_at 46 (length s) start part) start (take (t - start) part)
+  run_part : (t : ℕ) → start ≤ t → t ≤ stop → run found.point start t s ≡ without (first_at 46 (length s) start part) start (take (t - start) part)
   unfolding run
   run_part t k l = rw (c.point, slice-take t k l)
 
-  pub run_whole : run d.found.point start d.stop s ≡ without (first_at 46 (length s) start part) start part
+  pub run_whole : run found.point start stop s ≡ without (first_at 46 (length s) start part) start part
   unfolding run
   run_whole = rw (c.point, ← part_slice)
 
-  pub walked : Walked s start d
+  pub walked : Walked s start stop found
   walked =
       record {
         ordered = stop_low;
         within = stop_within;
         plain = rw run_whole (without-plain _ start part (decimals_all (drop start s)));
-        second = λ t k l. ap (holds 46) (run_part t k l) ∙ (let e : start + (t - start) ≡ t = omega arith in holds-second (length s) start (t - start) part fits (omega (arith, c.stop)) ∙ rw (e, c.second));
+        second = λ t k l. ap (holds 46) (run_part t k l) ∙ (let e : start + (t - start) ≡ t = omega arith in holds-second (length s) start (t - start) part fits (omega (arith, c.stops)) ∙ rw (e, c.second));
       }
 
-  module _ (o : d.found.points < 2) where
+  module _ (o : found.points < 2) where
     one : points part < 2
     one = rw c.points at o
 
-    pub short-digits : (t : ℕ) → start ≤ t → t ≤ d.stop → all_digits (run d.found.point start t s) ≡ true
+    pub short-digits : (t : ℕ) → start ≤ t → t ≤ stop → all_digits (run found.point start t s) ≡ true
     short-digits t k l =
-        walked_digits s start t d walked k l (omega (arith, stop_within, c.second, one_second (length s) start part one))
+        walked_digits s start t stop found walked k l (omega (arith, stop_within, c.second, one_second (length s) start part one))
 
-    pub short-value : (t : ℕ) → start ≤ t → t ≤ d.stop → unpointed (slice start t s) ≡ run d.found.point start t s
+    pub short-value : (t : ℕ) → start ≤ t → t ≤ stop → unpointed (slice start t s) ≡ run found.point start t s
     short-value t k l = rw (run_part t k l, slice-take t k l) (unpointed_one (length s) start (t - start) part fits one)
 
-    pub short-length : length (run d.found.point start d.stop s) ≡ d.stop - start - d.found.points
-    short-length = rw run_whole (omega (arith, length_one (length s) start part fits, c.stop, c.points))
+    pub short-length : length (run found.point start stop s) ≡ stop - start - found.points
+    short-length = rw run_whole (omega (arith, length_one (length s) start part fits, c.stops, c.points))
 
 -- ---- what is walked can be walked from after its zeros
 
@@ -214,7 +215,7 @@ strip_zeros_lem (x ∷ a) b e =
     ⊎_elim
     (λ q. rw q (strip_zeros_lem a b (rw q at e)))
     (λ q. absurd (omega (arith, length-append a b, ap length (rw q at e))))
-    (true_or (eqb x 48))
+    (cases_Bool (eqb x 48))
 
 zeros_hold : (a b : List ℕ) → all_zeros a ≡ true → holds 46 (a ++ b) ≡ holds 46 b
 unfolding all_zeros
@@ -223,15 +224,15 @@ zeros_hold (x ∷ a) b e =
     let h = both (eqb x 48) (all_zeros a) e in
     holds_later 46 x (a ++ b) (λ q. omega (arith, eqb-true x 48 h.0)) ∙ zeros_hold a b h.1
 
-module _ (s : List ℕ) (i : ℕ) (d : Spans) (w : Walked s i d) (r : ℕ) (z : ZerosTo d.found.point i d.stop s r) where
-  pub walked_from : Walked s r d
+module _ (s : List ℕ) (i : ℕ) (stop : ℕ) (found : Found) (w : Walked s i stop found) (r : ℕ) (z : ZerosTo found.point i stop s r) where
+  pub walked_from : Walked s r stop found
   walked_from =
-      let p = d.found.point in
-      let e = run_parts p i r d.stop s z.after z.within w.within in
-      let a = strip_zeros_lem (run p i r s) (run p r d.stop s) (rw e at z.strip) in
+      let p = found.point in
+      let e = run_parts p i r stop s z.after z.within w.within in
+      let a = strip_zeros_lem (run p i r s) (run p r stop s) (rw e at z.strip) in
       record {
         ordered = z.within;
         within = w.within;
-        plain = (plain_parts (run p i r s) (run p r d.stop s) (rw e at w.plain)).1;
+        plain = (plain_parts (run p i r s) (run p r stop s) (rw e at w.plain)).1;
         second = λ t k l. sym (zeros_hold (run p i r s) (run p r t s) a) ∙ sym (ap (holds 46) (run_parts p i r t s z.after k (omega (arith, w.within)))) ∙ w.second t (omega (arith, z.after)) l;
       }

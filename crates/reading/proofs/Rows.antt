@@ -1,103 +1,26 @@
--- A row of digits: four and eight of them, which are read at once, and one law for any count.
-use mathlib.Core.Path.{◌≡◌, refl, sym, ap, ◌∙◌}
+-- A row of digits: the first eight of them, and each of at most eight.
+use mathlib.Core.Path.{◌≡◌, refl, sym, ap, subst, ◌∙◌}
 use mathlib.Core.Logic.{◌⊎◌}
-use mathlib.Core.Bool.{Bool, true, ◌&&◌, and_assoc, and-true}
+use mathlib.Core.Bool.{true, ◌&&◌, and_assoc, and-true}
 use mathlib.Core.List.{List, [], ◌∷◌, ◌++◌}
 use Prim.Native.Nat.{ℕ, zero, suc, ◌+◌, ◌-◌, ◌*◌, ◌^◌, ◌≤◌, ◌<◌}
-use native.Mathlib.Nat.{add_assoc, lt_of_lt_of_le, sub_self, pow-zero, pow-suc}
+use native.Mathlib.Nat.{lt_of_lt_of_le, pow-zero, pow-suc}
+use native.Mathlib.Numerals.{add-one}
 use native.Mathlib.Omega.{arith}
 use lib.Arith.{digits_lt}
 use lib.Pow.{pow-add}
 use lib.Dec.{lit≤}
-use lib.ListN.{length, get_or, length-append}
-use lib.Seq.{slice, slice_empty, length-slice}
+use lib.ListN.{length, get_or, take, drop, length-append, length-drop, take-append-drop}
+use lib.Seq.{slice, slice_empty, take-suc, take-length, drop-drop}
 use Rattle.meaning.specs.Reading.{is_digit, number, all_digits}
-use Rattle.meaning.proofs.Numbers.{both, byte_digit, digits_append, digits_parts, number_append, number_split, number_shift, number_lt, pow-le}
+use Rattle.meaning.proofs.Numbers.{pow_pos, both, byte_digit, digits_append, digits_parts, number_append, number_shift, number_lt, pow-le}
 use Rattle.limbs.proofs.Laws.{none_carried}
 use Rattle.reading.specs.declared.scan.Found.{Found}
-use Rattle.reading.specs.Scan.{Passing}
+use Rattle.reading.proofs.Pass.{Passing, passing_digit}
 use Rattle.reading.specs.Run.{run, Row}
-use Rattle.reading.proofs.Bytes.{slice_step, slice_more, slice_parts}
-use Rattle.reading.proofs.Pass.{passing_digit}
+use Rattle.reading.proofs.Bytes.{take-drop, slice_step, slice_parts}
 use Rattle.reading.proofs.Walk.{run_apart, run_across}
-
--- ---- four bytes
-
-abbrev Digit : ℕ → Type 0
-Digit b = (48 ≤ b) × (b ≤ 57)
-
-abbrev pub FourDigits : List ℕ → ℕ → Type 0
-FourDigits s i = Digit (get_or s i 0) × Digit (get_or s (i + 1) 0) × Digit (get_or s (i + 2) 0) × Digit (get_or s (i + 3) 0)
-
-module _ (s : List ℕ) (i : ℕ) (h : i + 4 ≤ length s) where
-  abbrev byte : ℕ → ℕ
-  byte k = get_or s k 0
-
-  step : (k : ℕ) → k < 4 → slice (i + k) (i + 4) s ≡ byte (i + k) ∷ slice (i + (k + 1)) (i + 4) s
-  step k l = rw (← add_assoc i k 1) (slice_step (i + k) (i + 4) s (omega arith) h)
-
-  four_bytes : slice i (i + 4) s ≡ byte i ∷ byte (i + 1) ∷ byte (i + 2) ∷ byte (i + 3) ∷ []
-  four_bytes =
-      rw (slice_step i (i + 4) s (omega arith) h, step 1 (lit≤ tt), step 2 (lit≤ tt), step 3 (lit≤ tt), slice_empty (i + 4) s)
-
-  four_length : length (slice i (i + 4) s) ≡ 4
-  four_length = rw four_bytes
-
-  abbrev test : ℕ → Bool
-  test k = is_digit (byte k)
-
-  -- their tests are one test of all
-  pub four_test : (((test i && test (i + 1)) && test (i + 2)) && test (i + 3)) ≡ all_digits (slice i (i + 4) s)
-  unfolding all_digits
-  four_test = rw four_bytes (simp (and_assoc, and-true))
-
-  module _ (d : all_digits (slice i (i + 4) s) ≡ true) where
-    pub four-each : FourDigits s i
-    unfolding all_digits
-    four-each =
-        let p = both (test i) _ (rw four_bytes at d) in
-        let q = both (test (i + 1)) _ p.1 in
-        let r = both (test (i + 2)) _ q.1 in
-        let u = both (test (i + 3)) _ r.1 in
-        (byte_digit _ p.0, byte_digit _ q.0, byte_digit _ r.0, byte_digit _ u.0)
-
-    -- 53328 is 48 * 1111: their zeros together
-    pub four-number : byte i * 1000 + byte (i + 1) * 100 + byte (i + 2) * 10 + byte (i + 3) - 53328 ≡ number 0 (slice i (i + 4) s)
-    unfolding number
-    four-number = rw four_bytes (omega (arith, four-each))
-
-    four_below : number 0 (slice i (i + 4) s) < 10000
-    four_below = rw four_length at (number_lt (slice i (i + 4) s) d)
-
--- ---- eight bytes: four, and four more
-
-digits_both : (a b : List ℕ) → (all_digits a && all_digits b) ≡ all_digits (a ++ b)
-unfolding all_digits
-digits_both [] b = refl
-digits_both (x ∷ a) b = rw (and_assoc, digits_both a b)
-
-module _ (s : List ℕ) (i : ℕ) (h : i + 8 ≤ length s) where
-  abbrev high : List ℕ
-  high = slice i (i + 4) s
-
-  abbrev low : List ℕ
-  low = slice (i + 4) (i + 4 + 4) s
-
-  eight-bytes : slice i (i + 8) s ≡ high ++ low
-  eight-bytes = rw (add_assoc i 4 4) (slice_parts i (i + 4) (i + 8) s (omega arith) (omega arith) h)
-
-  pub eight_test : (all_digits high && all_digits low) ≡ all_digits (slice i (i + 8) s)
-  eight_test = rw eight-bytes (digits_both high low)
-
-  pub eight-number : number 0 high * 10000 + number 0 low ≡ number 0 (slice i (i + 8) s)
-  eight-number = rw (eight-bytes, number_split, four_length s (i + 4) (omega arith))
-
-  module _ (d : all_digits (slice i (i + 8) s) ≡ true) where
-    pub eight-parts : (all_digits high ≡ true) × (all_digits low ≡ true)
-    eight-parts = digits_parts high low (rw eight-bytes at d)
-
-    pub eight-below : (number 0 high < 10000) × (number 0 low < 10000)
-    eight-below = (four_below s i (omega arith) eight-parts.0, four_below s (i + 4) (omega arith) eight-parts.1)
+use Rattle.std.proofs.lemmas.List.{drop_more}
 
 -- ---- digits passed
 
@@ -113,6 +36,16 @@ module _ (s : List ℕ) (start t : ℕ) (m : Found) (l : t ≤ length s) where
   pub passing_on : (i : ℕ) → i ≤ t → all_digits (slice i t s) ≡ true → Passing s start i m → Passing s start t m
   passing_on i h = passing_row (t - i) i (omega arith)
 
+digits_both : (a b : List ℕ) → (all_digits a && all_digits b) ≡ all_digits (a ++ b)
+unfolding all_digits
+digits_both [] b = refl
+digits_both (x ∷ a) b = rw (and_assoc, digits_both a b)
+
+-- one byte more
+pub digits-more : (s : List ℕ) (i : ℕ) → i < length s → (all_digits (take i s) && is_digit (get_or s i 0)) ≡ all_digits (take (i + 1) s)
+unfolding all_digits
+digits-more s i h = rw (add-one, take-suc s i 0, ← digits_both, and-true)
+
 pub row_none : (s : List ℕ) (i : ℕ) → all_digits (slice i i s) ≡ true
 unfolding all_digits
 row_none s i = rw (slice_empty i s)
@@ -121,143 +54,160 @@ module _ (s : List ℕ) (f i t : ℕ) (h : f ≤ i) (k : i ≤ t) (l : t ≤ len
   pub row_on : all_digits (slice f i s) ≡ true → all_digits (slice i t s) ≡ true → all_digits (slice f t s) ≡ true
   row_on p q = rw (slice_parts f i t s h k l) (digits_append (slice f i s) (slice i t s) p q)
 
+-- the bytes of s from f on are digits up to where the rest begins
+pub record Passed (s : List ℕ) (f : ℕ) (rest : List ℕ) : Type 0 where
+  pub few : f + length rest ≤ length s
+  pub tail : rest ≡ drop (length s - length rest) s
+  pub digits : all_digits (slice f (length s - length rest) s) ≡ true
+
+pub passed_none : (s : List ℕ) (f : ℕ) (rest : List ℕ) → f ≤ length s → rest ≡ drop f s → Passed s f rest
+passed_none s f rest h e =
+    let n : length rest ≡ length s - f = ap length e ∙ length-drop f s in
+    let i : length s - length rest ≡ f = omega arith in
+    record { few = omega arith; tail = rw i e; digits = rw i (row_none s f) }
+
+-- and so are the next eight
+pub passed-more : (s : List ℕ) (f : ℕ) (rest eight others : List ℕ) → Passed s f rest → eight ≡ take 8 rest → others ≡ drop 8 rest → length others + 8 ≡ length rest → all_digits eight ≡ true → Passed s f others
+passed-more s f rest eight others p e o n d =
+    let i = length s - length rest in
+    let j : length s - length others ≡ i + 8 = omega (arith, p.few) in
+    let front : eight ≡ slice i (i + 8) s = e ∙ ap (take 8) p.tail ∙ take-drop i 8 s in
+    record {
+      few = omega (arith, p.few);
+      tail = rw j (o ∙ ap (drop 8) p.tail ∙ rw drop-drop);
+      digits = rw j (row_on s f i (i + 8) (omega (arith, p.few)) (omega arith) (omega (arith, p.few)) p.digits (rw front at d));
+    }
+
 -- ---- a row behind v
 
 number_room : (v m : ℕ) (a : List ℕ) → all_digits a ≡ true → v < 10 ^ m → number v a < 10 ^ (m + length a)
 number_room v m a d h = rw (number_shift v a, pow-add) (digits_lt h (number_lt a d))
 
+-- what is multiplied and added for a row is the number that it makes behind v, and nothing is carried out
+pub row_pushed : (l : List ℕ) (v : ℕ) → Row l v → (c : ℕ) {p by n : ℕ} → by ≡ 10 ^ length l → n ≡ number 0 l → p + 2 ^ 128 * c ≡ v * by + n → p ≡ number v l
+row_pushed l v r c f g q =
+    let fits : number v l < 2 ^ 128 =
+    lt_of_lt_of_le (lt_of_lt_of_le (number_room v (34 - length l) l r.digits r.small) (pow-le {j = 34} (omega (arith, r.few)))) (lit≤ tt) in
+    none_carried (2 ^ 128) c (q ∙ rw (f, g) (sym (number_shift v l))) fits
+
+-- the part of a row that stands first, and the number that it makes behind v
+module _ (a b : List ℕ) (v : ℕ) (r : Row (a ++ b) v) where
+  parts : (all_digits a ≡ true) × (all_digits b ≡ true)
+  parts = digits_parts a b r.digits
+
+  total : length (a ++ b) ≡ length a + length b
+  total = length-append a b
+
+  pub row_first : Row a v
+  row_first =
+      record { digits = parts.0; few = omega (arith, total, r.few); small = lt_of_lt_of_le r.small (pow-le (omega (arith, total))) }
+
+  pub row_rest : Row b (number v a)
+  row_rest =
+      let e : 34 - length b ≡ 34 - length (a ++ b) + length a = omega (arith, total, r.few) in
+      record { digits = parts.1; few = omega (arith, total, r.few); small = rw e (number_room v _ a parts.0 r.small) }
+
 -- a run is one row, or two rows with the point between them
-module _ (p i t v : ℕ) (s : List ℕ) (k : (i ≤ t) × (t ≤ length s) × (all_digits (run p i t s) ≡ true)) where
-  module _ (m : (length (run p i t s) ≤ 34) × (v < 10 ^ (34 - length (run p i t s)))) where
-    pub row-whole : (p < i) ⊎ (t ≤ p) → Row s i t v
-    row-whole h =
-        let e = run_apart p i t s h k.0 k.1 in
-        let n : length (slice i t s) ≡ t - i = length-slice i t s k.1 in
-        record { ordered = k.0; within = k.1; digits = rw e at k.2; few = rw (e, n) at m.0; small = rw (e, n) at m.1 }
+module _ (p i t : ℕ) (s : List ℕ) (k : (i ≤ t) × (t ≤ length s)) (d : all_digits (run p i t s) ≡ true) (m : length (run p i t s) ≤ 34) where
+  row-run : Row (run p i t s) 0
+  row-run = record { digits = d; few = m; small = pow_pos _ }
 
-    module _ (h : i ≤ p) (j : p < t) where
-      across : run p i t s ≡ slice i p s ++ slice (p + 1) t s
-      across = run_across p i t s h j k.1
+  module _ (h : (p < i) ⊎ (t ≤ p)) where
+    pub run-whole : run p i t s ≡ slice i t s
+    run-whole = run_apart p i t s h k.0 k.1
 
-      parts : (all_digits (slice i p s) ≡ true) × (all_digits (slice (p + 1) t s) ≡ true)
-      parts = digits_parts (slice i p s) (slice (p + 1) t s) (rw across at k.2)
+    pub row-whole : Row (slice i t s) 0
+    row-whole = subst (λ (l : List ℕ). Row l 0) run-whole row-run
 
-      total : length (run p i t s) ≡ (p - i) + (t - (p + 1))
-      total =
-          rw (across, length-append) (omega (arith, length-slice i p s (omega arith), length-slice (p + 1) t s k.1))
+  module _ (h : i ≤ p) (j : p < t) where
+    across : run p i t s ≡ slice i p s ++ slice (p + 1) t s
+    across = run_across p i t s h j k.1
 
-      pub row_before : Row s i p v
-      row_before =
-          record {
-            ordered = h;
-            within = omega arith;
-            digits = parts.0;
-            few = omega (arith, total);
-            small = lt_of_lt_of_le m.1 (pow-le (omega (arith, total)));
-          }
+    row-across : Row (slice i p s ++ slice (p + 1) t s) 0
+    row-across = subst (λ (l : List ℕ). Row l 0) across row-run
 
-      pub row-behind : Row s (p + 1) t (number v (slice i p s))
-      row-behind =
-          let n = length-slice i p s (omega arith) in
-          let e : 34 - (t - (p + 1)) ≡ 34 - length (run p i t s) + length (slice i p s) = omega (arith, total, n) in
-          record {
-            ordered = omega arith;
-            within = k.1;
-            digits = parts.1;
-            few = omega (arith, total);
-            small = rw e (number_room v _ (slice i p s) parts.0 m.1);
-          }
+    pub row_before : Row (slice i p s) 0
+    row_before = row_first (slice i p s) (slice (p + 1) t s) 0 row-across
 
-      pub row-both : number (number v (slice i p s)) (slice (p + 1) t s) ≡ number v (run p i t s)
-      row-both = sym (ap (number v) across ∙ number_append v (slice i p s) (slice (p + 1) t s))
+    pub row-behind : Row (slice (p + 1) t s) (number 0 (slice i p s))
+    row-behind = row_rest (slice i p s) (slice (p + 1) t s) 0 row-across
 
--- ---- and its first w digits
+    pub row-both : number (number 0 (slice i p s)) (slice (p + 1) t s) ≡ number 0 (run p i t s)
+    row-both = sym (ap (number 0) across ∙ number_append 0 (slice i p s) (slice (p + 1) t s))
 
-module _ (s : List ℕ) (i k t v w : ℕ) (r : Row s i t v) (e : i + w ≡ k) (h : k ≤ t) where
-  abbrev pushed : ℕ
-  pushed = v * 10 ^ w + number 0 (slice i k s)
+-- ---- eight digits of a row
 
-  row_parts : slice i t s ≡ slice i k s ++ slice k t s
-  row_parts = slice_parts i k t s (omega arith) h r.within
+module _ (l : List ℕ) (v : ℕ) (r : Row l v) where
+  abbrev front : List ℕ
+  front = take 8 l
 
-  row-length : length (slice i k s) ≡ w
-  row-length = omega (arith, length-slice i k s (omega (arith, r.within)))
+  abbrev behind : List ℕ
+  behind = drop 8 l
 
-  digits : (all_digits (slice i k s) ≡ true) × (all_digits (slice k t s) ≡ true)
-  digits = digits_parts (slice i k s) (slice k t s) (rw row_parts at r.digits)
+  split : front ++ behind ≡ l
+  split = take-append-drop 8 l
 
-  pub row_digits : all_digits (slice i k s) ≡ true
-  row_digits = digits.0
+  row-split : Row (front ++ behind) v
+  row-split = subst (λ (m : List ℕ). Row m v) (sym split) r
 
-  shifted : number v (slice i k s) ≡ pushed
-  shifted = number_shift v (slice i k s) ∙ ap (λ (n : ℕ). v * 10 ^ n + number 0 (slice i k s)) row-length
+  pub row_front : Row front v
+  row_front = row_first front behind v row-split
 
-  row_next : pushed < 10 ^ (34 - (t - k))
-  row_next =
-      let n : 34 - (t - k) ≡ 34 - (t - i) + length (slice i k s) = omega (arith, r.few, row-length) in
-      rw (← shifted, n) (number_room v (34 - (t - i)) (slice i k s) row_digits r.small)
+  pub row-behind-front : Row behind (number v front)
+  row-behind-front = row_rest front behind v row-split
 
-  row_fits : pushed < 2 ^ 128
-  row_fits = lt_of_lt_of_le (lt_of_lt_of_le row_next (pow-le {j = 34} (omega arith))) (lit≤ tt)
+  pub row-join : number (number v front) behind ≡ number v l
+  row-join = sym (ap (number v) (sym split) ∙ number_append v front behind)
 
-  -- what is multiplied and added is that number, and nothing is carried out
-  pub row_pushed : (c : ℕ) {p by n : ℕ} → by ≡ 10 ^ w → n ≡ number 0 (slice i k s) → p + 2 ^ 128 * c ≡ v * by + n → p ≡ pushed
-  row_pushed c f g q = none_carried (2 ^ 128) c (q ∙ (rw (f, g) refl)) row_fits
+-- ---- at most eight digits, one by one
 
-  pub row_rest : Row s k t pushed
-  row_rest = record { ordered = h; within = r.within; digits = digits.1; few = omega (arith, r.few); small = row_next }
+-- the digits of l up to i: their bytes as they are, what `0` adds to each, and the power of ten that makes room for them
+pub record FewAt (l : List ℕ) (i sum zeros room : ℕ) : Type 0 where
+  pub power : room ≡ 10 ^ i
+  pub taken : 9 * zeros + 48 ≡ 48 * room
+  pub added : sum ≡ zeros + number 0 (take i l)
+  pub small : number 0 (take i l) < room
 
-  pub row_same : number v (slice i t s) ≡ number pushed (slice k t s)
-  row_same = rw (row_parts, number_append, shifted)
-
-row_end : (s : List ℕ) (t v : ℕ) → number v (slice t t s) ≡ v
+pub few_none : (l : List ℕ) → FewAt l 0 0 0 1
 unfolding number
-row_end s t v = rw (slice_empty t s)
+few_none l = record { power = rw pow-zero; taken = refl; added = refl; small = omega arith }
 
--- ---- less than eight digits of a row, one by one
+module _ (l : List ℕ) (c i sum zeros room : ℕ) (r : Row l c) (few : length l ≤ 8) (a : FewAt l i sum zeros room) where
+  module _ (h : i < length l) where
+    abbrev byte : ℕ
+    byte = get_or l i 0
 
--- v is the number of those up to i, and `by` the power of ten that makes room for them
-pub record FewAt (s : List ℕ) (f t i v by : ℕ) : Type 0 where
-  pub after : f ≤ i
-  pub within : i ≤ t
-  pub power : by ≡ 10 ^ (i - f)
-  pub same : v ≡ number 0 (slice f i s)
-  pub small : v < by
-
-pub few_none : (s : List ℕ) (f t : ℕ) → f ≤ t → FewAt s f t f 0 1
-unfolding number
-few_none s f t h =
-    record { after = omega arith; within = h; power = rw (sub_self, pow-zero); same = rw (slice_empty f s); small = omega arith }
-
-module _ (s : List ℕ) (f t i v by c : ℕ) (r : Row s f t c) (a : FewAt s f t i v by) where
-  module _ (h : i < t) where
-    pub few-byte : Digit (get_or s i 0)
+    few-byte : (48 ≤ byte) × (byte ≤ 57)
     unfolding all_digits
     few-byte =
-        let q = rw (slice_parts f i t s a.after (omega arith) r.within) at r.digits in
-        let d = rw (slice_step i t s h r.within) at (digits_parts (slice f i s) (slice i t s) q).1 in
-        byte_digit _ (both (is_digit (get_or s i 0)) _ d).0
+        let e : l ≡ take i l ++ (byte ∷ drop (i + 1) l) = sym (take-append-drop i l) ∙ rw (drop_more l i 0 h) in
+        let d = digits_parts (take i l) (byte ∷ drop (i + 1) l) (subst (λ (l : List ℕ). all_digits l ≡ true) e r.digits) in
+        byte_digit _ (both (is_digit byte) _ d.1).0
 
-    pub few-room : t < f + 8 → by ≤ 1000000
-    few-room l = rw a.power (pow-le {j = 6} (omega (arith, a.after)))
+    few-room : room ≤ 10000000
+    few-room = rw a.power (pow-le {j = 7} (omega arith))
 
-    pub few-more : FewAt s f t (i + 1) (v * 10 + (get_or s i 0 - 48)) (by * 10)
+    pub few-bounds : (48 ≤ byte) × (byte ≤ 57) × (room ≤ 10000000) × (zeros ≤ 53333333) × (sum ≤ 63333333)
+    few-bounds =
+        let b = few-byte in
+        let r = few-room in
+        let z : zeros ≤ 53333333 = omega (arith, a.taken) in (b.0, b.1, r, z, omega (arith, a.added, a.small))
+
+    next : number 0 (take (i + 1) l) ≡ number 0 (take i l) * 10 + (byte - 48)
     unfolding number
+    next = rw (add-one, take-suc l i 0, number_append)
+
+    pub few-more : FewAt l (i + 1) (sum * 10 + byte) (zeros * 10 + 48) (room * 10)
     few-more =
-        let n : i + 1 - f ≡ suc (i - f) = omega (arith, a.after) in
         record {
-          after = omega (arith, a.after);
-          within = omega arith;
-          power = rw (n, pow-suc, ← a.power) (omega arith);
-          same = rw (slice_more s f i a.after (omega (arith, r.within)), number_append, ← a.same);
-          small = omega (arith, a.small, few-byte);
+          power = rw (add-one, pow-suc, ← a.power) (omega arith);
+          taken = omega (arith, a.taken);
+          added = rw next (omega (arith, a.added, few-byte));
+          small = rw next (omega (arith, a.small, few-byte));
         }
 
   -- and all of them at once behind c
-  pub few_end : t ≤ i → (k : ℕ) {p : ℕ} → p + 2 ^ 128 * k ≡ c * by + v → p ≡ number c (slice f t s)
-  few_end h k q =
-      let e : i ≡ t = omega (arith, a.within) in
-      let w : f + (t - f) ≡ t = omega (arith, r.ordered) in
-      let l : t ≤ t = omega arith in
-      row_pushed s f t t c (t - f) r w l k (a.power ∙ rw e) (a.same ∙ rw e) q
-      ∙ sym (row_same s f t t c (t - f) r w l ∙ row_end s t _)
+  pub few_end : i ≡ length l → (k : ℕ) {p : ℕ} → p + 2 ^ 128 * k ≡ c * room + (sum - zeros) → p ≡ number c l
+  few_end e k q =
+      let whole : take i l ≡ l = rw e (take-length l) in
+      row_pushed l c r k (a.power ∙ ap (λ (n : ℕ). 10 ^ n) e) (omega (arith, rw whole at a.added)) q

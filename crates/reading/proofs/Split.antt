@@ -6,16 +6,18 @@ use mathlib.Core.List.{List, [], ◌∷◌, ◌++◌, map}
 use Prim.Native.Nat.{ℕ, suc, ◌+◌, ◌-◌, ◌≤◌, ◌<◌}
 use native.Mathlib.Omega.{arith}
 use lib.Dec.{eqb}
-use lib.ListN.{length, take, drop, length-drop, length-map}
+use lib.ListN.{length, take, drop}
 use lib.Seq.{slice}
 use borrow.Author.Tests.{eq-eqb, ne_eqb}
 use Rattle.meaning.specs.Reading.{refused_at, is_digit, lower, before, from, fraction, decimal_part, the_e, wrong_byte, step3, step4}
 use Rattle.meaning.proofs.Numbers.{both, eq_or, neither_of}
 use Rattle.reading.specs.Scan.{is_plain, all_plain, decimals, first_at, points}
 use Rattle.reading.specs.Split.{wrong_for}
+use Rattle.reading.specs.Told.{named}
 use Rattle.reading.specs.Run.{without}
 use Rattle.reading.proofs.Lower.{plain-lower, lower-plain}
-use Rattle.reading.proofs.Bytes.{cond_same, true_or, take-drop, digit_no_point, plain_or, plain-below, decimals_more, decimals_none, points_more, points-same, first_here, first_later, without_skip, without-take}
+use Rattle.reading.proofs.Bytes.{cond_same, take-drop, digit_no_point, plain_or, plain-below, decimals_more, decimals_none, points_more, points-same, first_here, first_later, without_skip, without-take}
+use Rattle.std.proofs.lemmas.Bool.{cases_Bool}
 
 -- ---- the split at the first `e`
 
@@ -38,7 +40,7 @@ before_split (x ∷ l) =
     ⊎_elim
     (λ e. rw (decimals_more x l e) (before-plain x l e ∙ ap (λ (k : List ℕ). x ∷ k) (before_split l)))
     (λ e. rw (decimals_none x l e))
-    (true_or (is_plain x))
+    (cases_Bool (is_plain x))
 
 pub from_split : (l : List ℕ) → from 101 (map lower l) ≡ from 101 (map lower (drop (length (decimals l)) l))
 from_split [] = unfold decimals from in refl
@@ -46,7 +48,7 @@ from_split (x ∷ l) =
     ⊎_elim
     (λ e. rw (decimals_more x l e) (from-plain x l e ∙ from_split l))
     (λ e. rw (decimals_none x l e))
-    (true_or (is_plain x))
+    (cases_Bool (is_plain x))
 
 -- ---- the decimal part
 
@@ -54,7 +56,7 @@ pub decimals_all : (l : List ℕ) → all_plain (decimals l) ≡ true
 unfolding all_plain
 decimals_all [] = unfold decimals in refl
 decimals_all (x ∷ l) =
-    ⊎_elim (λ e. rw (decimals_more x l e, e, decimals_all l)) (λ e. rw (decimals_none x l e)) (true_or (is_plain x))
+    ⊎_elim (λ e. rw (decimals_more x l e, e, decimals_all l)) (λ e. rw (decimals_none x l e)) (cases_Bool (is_plain x))
 
 -- a byte that is neither digit nor point, at the start or later
 decimal_wrong : (seen : Bool) (a : List ℕ) (y : ℕ) (z : List ℕ) → is_plain y ≡ false → decimal_part seen (a ++ (y ∷ z)) ≡ false
@@ -112,7 +114,7 @@ decimal_right (x ∷ l) p e =
 
 -- ---- step 3
 
-pub step3_wrong : (text : List ℕ) (g : Bool) (dec t : List ℕ) → decimal_part false dec ≡ false → step3 text g dec t ≡ refused_at (wrong_for t) (cond (eqb (length t) 1) (the_e text) (wrong_byte text))
+pub step3_wrong : (text : List ℕ) (g : Bool) (dec t : List ℕ) → decimal_part false dec ≡ false → step3 text g dec t ≡ refused_at (named (wrong_for t)) (cond (eqb (length t) 1) (the_e text) (wrong_byte text))
 unfolding step3 step4
 step3_wrong text g dec [] e = rw e
 step3_wrong text g dec (x ∷ []) e = refl
@@ -126,7 +128,7 @@ wrong_after a x l e n = rw (ne_eqb (lower x) 101 n) (decimal_wrong false a (lowe
 
 not_plain : (x : ℕ) (l : List ℕ) → decimals (x ∷ l) ≡ [] → is_plain x ≡ false
 not_plain x l e =
-    ⊎_elim (λ q. absurd (omega (arith, ap length (sym (decimals_more x l q) ∙ e)))) (λ q. q) (true_or (is_plain x))
+    ⊎_elim (λ q. absurd (omega (arith, ap length (sym (decimals_more x l q) ∙ e)))) (λ q. q) (cases_Bool (is_plain x))
 
 pub wrong_first : (l : List ℕ) → decimals l ≡ [] → decimal_part false (before 101 (map lower l)) ≡ false
 unfolding before decimal_part
@@ -152,12 +154,6 @@ first_length b n i (x ∷ l) h =
     (λ e. rw (eq-eqb x b e, first_here b n i x l e) (omega arith))
     (λ e. rw (ne_eqb x b e, first_later b n i x l e) (first_length b n (i + 1) l (omega arith) ∙ omega arith))
     (eq_or x b)
-
-pub e_length : (s : List ℕ) (i : ℕ) → i ≤ length s → length (from 101 (map lower (drop i s))) ≡ length s - first_at 101 (length s) i (map lower (drop i s))
-e_length s i h =
-    let m : length (map lower (drop i s)) ≡ length s - i = length-map (drop i s) lower ∙ length-drop i s in
-    let e : i + length (map lower (drop i s)) ≡ length s = omega arith in
-    first_length 101 (length s) i (map lower (drop i s)) (omega arith) ∙ rw e
 
 -- ---- the first point
 
@@ -193,7 +189,7 @@ decimals-take (x ∷ l) =
     ⊎_elim
     (λ e. rw (decimals_more x l e) (ap (λ (m : List ℕ). x ∷ m) (decimals-take l)))
     (λ e. rw (decimals_none x l e))
-    (true_or (is_plain x))
+    (cases_Bool (is_plain x))
 
 pub decimals-slice : (s : List ℕ) (i : ℕ) → decimals (drop i s) ≡ slice i (i + length (decimals (drop i s))) s
 decimals-slice s i = decimals-take (drop i s) ∙ take-drop i (length (decimals (drop i s))) s
@@ -204,4 +200,4 @@ decimals-length (x ∷ l) =
     ⊎_elim
     (λ e. rw (decimals_more x l e) (omega (arith, decimals-length l)))
     (λ e. rw (decimals_none x l e) (omega arith))
-    (true_or (is_plain x))
+    (cases_Bool (is_plain x))

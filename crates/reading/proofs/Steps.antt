@@ -15,7 +15,8 @@ use Rattle.meaning.specs.Reading.{Located, refused_at, accepted_as, origin, low,
 use Rattle.meaning.specs.Decimal.Decimal.{finite}
 use Rattle.meaning.specs.Refusals.Refusal.{invalid_coefficient, overflow, inexact_rounding}
 use Rattle.meaning.proofs.Numbers.{le_or, no_point, digits_append, digits_zeros, zeros_zeros, zeros_number, number_split, strip_number, strip_digits, number_lt, pow_pos, pow-le, eq_or}
-use Rattle.reading.proofs.Bytes.{true_or, holds_here, holds_later}
+use Rattle.reading.proofs.Bytes.{holds_here, holds_later}
+use Rattle.std.proofs.lemmas.Bool.{cases_Bool}
 
 -- ---- the range of x
 
@@ -172,7 +173,7 @@ strip_length : (s : List ℕ) → length (strip_zeros s) ≤ length s
 unfolding strip_zeros
 strip_length [] = omega arith
 strip_length (x ∷ s) =
-    ⊎_elim (λ q. rw q (omega (arith, strip_length s))) (λ q. rw q (omega arith)) (true_or (eqb x 48))
+    ⊎_elim (λ q. rw q (omega (arith, strip_length s))) (λ q. rw q (omega arith)) (cases_Bool (eqb x 48))
 
 module _ (text : List ℕ) (g : Bool) (n : ℕ) (h : low ≤ n) (k : n ≤ high) where
   as_it_is : (run : List ℕ) → all_digits run ≡ true → length run ≤ 34 → step7 text g n run ≡ accepted_as (finite g (n - low) (number 0 run))

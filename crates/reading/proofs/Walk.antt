@@ -1,5 +1,5 @@
 -- Laws of `run`: a byte more, its parts, its length, its zeros.
-use mathlib.Core.Path.{◌≡◌, refl, sym, ap, ◌∙◌}
+use mathlib.Core.Path.{◌≡◌, refl, sym, ap, subst, ◌∙◌}
 use mathlib.Core.Logic.{◌⊎◌, inl, inr, ⊎_elim}
 use mathlib.Core.Bool.{true, false}
 use mathlib.Core.List.{List, [], ◌∷◌, ◌++◌}
@@ -126,9 +126,6 @@ pub record ZerosAt (p i t : ℕ) (s : List ℕ) (k : ℕ) : Type 0 where
   pub strip : strip_zeros (run p i t s) ≡ strip_zeros (run p k t s)
   pub zeros : all_zeros (run p i t s) ≡ all_zeros (run p k t s)
 
-pub zeros_none : (p i t : ℕ) (s : List ℕ) → i ≤ t → ZerosAt p i t s i
-zeros_none p i t s h = record { after = omega arith; within = h; strip = refl; zeros = refl }
-
 module _ (p i t k : ℕ) (s : List ℕ) (z : ZerosAt p i t s k) (h : k < t) (l : t ≤ length s) where
   pub zeros_point : k ≡ p → ZerosAt p i t s (k + 1)
   zeros_point e =
@@ -173,6 +170,9 @@ zeros_all p i t k s z h =
       zeros = z.zeros ∙ rw (q, eq-eqb k t e);
       apart = λ w. absurd (omega arith);
     }
+
+pub zeros_end : (p i t k : ℕ) (s : List ℕ) → ZerosAt p i t s k → t ≤ k → ZerosTo p i t s t
+zeros_end p i t k s z h = let e : k ≡ t = omega (arith, z.within) in subst (ZerosTo p i t s) e (zeros_all p i t k s z h)
 
 module _ (p i t r : ℕ) (s : List ℕ) (z : ZerosTo p i t s r) where
   pub zeros_not : r < t → all_zeros (run p i t s) ≡ false

@@ -9,21 +9,21 @@ use lib.Dec.{eqb}
 use lib.ListN.{length, get_or, drop, length-append, length-drop, length-map}
 use borrow.Author.Tests.{eqb-true, eq-eqb, ne_eqb, le-leb, lt-leb}
 use Rattle.meaning.specs.Reading.{refused_at, lower, before, from, fraction, strip_zeros, all_zeros, run_of, the_e, after_e, sign_length, decimal_of, second_point, plain_bytes, wrong_byte, last_bytes, first_cut, decimal_part, step3}
-use Rattle.meaning.specs.Refusals.{number_of}
 use Rattle.meaning.proofs.Numbers.{by_test, eq_or, le_or}
 use Rattle.meaning.proofs.Accepted.{parted}
 use Rattle.meaning.proofs.Places.{decimal-signed, decimal_unsigned, decimal_ends, after_is}
-use Rattle.reading.specs.declared.scan.Spans.{Spans}
+use Rattle.reading.specs.declared.scan.Found.{Found}
 use Rattle.reading.specs.Scan.{is_plain, decimals, first_at, second_at, Scanned}
 use Rattle.reading.specs.Run.{run, counted, Offset, ZerosTo}
 use Rattle.reading.specs.Parted.{behind, place_for, Parted, Placed}
 use Rattle.reading.specs.Split.{start_of, wrong_for}
 use Rattle.reading.specs.Told.{named}
-use Rattle.reading.proofs.Bytes.{true_or, decimals_more, decimals_none, first_here, first_later, second_next, second_later}
+use Rattle.reading.proofs.Bytes.{decimals_more, decimals_none, first_here, first_later, second_next, second_later}
 use Rattle.reading.proofs.Lower.{lower-plain}
 use Rattle.reading.proofs.Walk.{run_parts, run_rest, length_run, counted_apart, counted_across, zeros_not}
 use Rattle.reading.proofs.Split.{before-plain, first_length, without_first, step3_wrong}
 use Rattle.reading.proofs.Points.{part, fits, stop_within, run_whole}
+use Rattle.std.proofs.lemmas.Bool.{cases_Bool}
 
 -- ---- the sign and the decimal part
 
@@ -50,7 +50,7 @@ plain_is (x ∷ l) =
     ⊎_elim
     (λ e. rw (before-plain x l e, decimals_more x l e, e) (omega (arith, plain_is l)))
     (λ e. rw (decimals_none x l e) (by_test (eqb (lower x) 101) (λ q. unfold before in rw q) (λ q. unfold before in rw (q, lower-plain x e))))
-    (true_or (is_plain x))
+    (cases_Bool (is_plain x))
 
 module _ (s : List ℕ) (start : ℕ) (sign : sign_length s ≡ start) where
   wrong_is : wrong_byte s ≡ start + length (decimals (drop start s))
@@ -72,14 +72,13 @@ module _ (s : List ℕ) (start : ℕ) (sign : sign_length s ≡ start) where
 
   -- a wrong decimal part: 1 or 7
   module _ (h : start ≤ length s) (stop : ℕ) (e : stop ≡ start + length (decimals (drop start s))) where
-    pub wrong-gives : (g : Bool) (b : List ℕ) (n : ℕ) → decimal_part false b ≡ false → n ≡ number_of (wrong_for (from 101 (map lower (drop start s)))) → step3 s g b (from 101 (map lower (drop start s))) ≡ refused_at (named n) (place_for n stop s)
-    unfolding number_of named
-    wrong-gives g b n w q =
+    pub wrong-gives : (g : Bool) (b : List ℕ) → decimal_part false b ≡ false → step3 s g b (from 101 (map lower (drop start s))) ≡ refused_at (named (wrong_for (from 101 (map lower (drop start s))))) (place_for (wrong_for (from 101 (map lower (drop start s)))) stop s)
+    wrong-gives g b w =
         let t = from 101 (map lower (drop start s)) in
         step3_wrong s g b t w
         ∙ by_test (eqb (length t) 1)
-        (λ u. let m : n ≡ 1 = q ∙ rw u in rw (u, m, last_is h (eqb-true (length t) 1 u)))
-        (λ u. let m : n ≡ 7 = q ∙ rw u in rw (u, m, wrong_is ∙ sym e))
+        (λ u. rw (u, last_is h (eqb-true (length t) 1 u)))
+        (λ u. rw (u, wrong_is ∙ sym e))
 
 -- 2, 4 and 5: the byte after the `e`
 pub letter_is : (s : List ℕ) (start stop : ℕ) → Parted s start → stop ≡ start + length (decimals (drop start s)) → after_e s ≡ behind stop s
@@ -138,67 +137,67 @@ unpointed start r p stop F B f g a b l = (omega arith, omega arith)
 across : (start r p stop F B : ℕ) → F ≡ stop - (p + 1) → start + B ≡ min p stop → start ≤ r → r < p → p < stop → (F < stop - r - 1) × (start + (B + F - (stop - r - 1)) ≡ r)
 across start r p stop F B f g a m l = (omega arith, omega arith)
 
-module _ (s : List ℕ) (start : ℕ) (d : Spans) (c : Scanned s start d) (h : start ≤ length s) where
+module _ (s : List ℕ) (start : ℕ) (stop : ℕ) (found : Found) (c : Scanned s start stop found) (h : start ≤ length s) where
   abbrev dec : List ℕ
-  dec = part s start d c h
+  dec = part s start stop found c h
 
-  pub after_point : length (fraction dec) ≡ d.stop - (d.found.point + 1)
+  pub after_point : length (fraction dec) ≡ stop - (found.point + 1)
   after_point =
       length-drop 1 (from 46 dec)
-      ∙ omega (arith, first_length 46 (length s) start dec (fits s start d c h), c.stop, c.point)
+      ∙ omega (arith, first_length 46 (length s) start dec (fits s start stop found c h), c.stops, c.point)
 
   -- the point, or the stop where there is none
-  before_point : start + length (before 46 dec) ≡ min d.found.point d.stop
-  before_point = first_place 46 (length s) start dec (fits s start d c h) ∙ rw (c.point, c.stop)
+  before_point : start + length (before 46 dec) ≡ min found.point stop
+  before_point = first_place 46 (length s) start dec (fits s start stop found c h) ∙ rw (c.point, c.stops)
 
   -- a byte of the run by how many there are from it on
-  last_at : (r : ℕ) → start ≤ r → r < d.stop → (r ≡ d.found.point → ⊥) → start + last_bytes (counted d.found.point r d.stop) dec ≡ r
+  last_at : (r : ℕ) → start ≤ r → r < stop → (r ≡ found.point → ⊥) → start + last_bytes (counted found.point r stop) dec ≡ r
   unfolding last_bytes
   last_at r a b n =
-      let p = d.found.point in
+      let p = found.point in
       let F = length (fraction dec) in
       let B = length (before 46 dec) in
       ⊎_elim
-      (λ k. rw (counted_apart p r d.stop (inl (omega (arith, k))), le-leb (d.stop - r) F (past r p d.stop F after_point k)) (omega (arith, c.stop)))
+      (λ k. rw (counted_apart p r stop (inl (omega (arith, k))), le-leb (stop - r) F (past r p stop F after_point k)) (omega (arith, c.stops)))
       (λ k.
       ⊎_elim
       (λ l.
-      let h = unpointed start r p d.stop F B after_point before_point a b l in
-      rw (counted_apart p r d.stop (inr l), lt-leb (d.stop - r) F h.0) h.1)
+      let h = unpointed start r p stop F B after_point before_point a b l in
+      rw (counted_apart p r stop (inr l), lt-leb (stop - r) F h.0) h.1)
       (λ l.
       let m = not_at r p k n in
-      let h = across start r p d.stop F B after_point before_point a m l in
-      rw (counted_across p r d.stop (omega (arith, m)) l, lt-leb (d.stop - r - 1) F h.0) h.1)
-      (le_or d.stop p))
+      let h = across start r p stop F B after_point before_point a m l in
+      rw (counted_across p r stop (omega (arith, m)) l, lt-leb (stop - r - 1) F h.0) h.1)
+      (le_or stop p))
       (le_or (p + 1) r)
 
-  module _ (q : Parted s start) (first : ℕ) (z : ZerosTo d.found.point start d.stop s first) where
-    run_is : run_of (decimal_of s) ≡ run d.found.point first d.stop s
+  module _ (q : Parted s start) (first : ℕ) (z : ZerosTo found.point start stop s first) where
+    run_is : run_of (decimal_of s) ≡ run found.point first stop s
     run_is =
         rw q.decimal
-        (ap strip_zeros (sym (without_first (length s) start dec (fits s start d c h)) ∙ sym (run_whole s start d c h)) ∙ z.strip)
+        (ap strip_zeros (sym (without_first (length s) start dec (fits s start stop found c h)) ∙ sym (run_whole s start stop found c h)) ∙ z.strip)
 
-    cut-is : (n i t r : ℕ) → Offset d.found.point first n i → t ≤ d.stop → ZerosTo d.found.point i t s r → r < t → first_cut n s ≡ r
+    cut-is : (n i t r : ℕ) → Offset found.point first n i → t ≤ stop → ZerosTo found.point i t s r → r < t → first_cut n s ≡ r
     unfolding first_cut
     cut-is n i t r o k y l =
-        let p = d.found.point in
-        let w = stop_within s start d c h in
-        let j : i ≤ d.stop = omega (arith, y.after) in
-        let m : n ≤ length (run p first d.stop s) =
-        rw (run_parts p first i d.stop s o.after j w)
-        (omega (arith, length-append (run p first i s) (run p i d.stop s), length_run p first i s o.after (omega arith), o.count)) in
-        let u : strip_zeros (drop n (run_of (decimal_of s))) ≡ run p r d.stop s =
+        let p = found.point in
+        let w = stop_within s start stop found c h in
+        let j : i ≤ stop = omega (arith, y.after) in
+        let m : n ≤ length (run p first stop s) =
+        rw (run_parts p first i stop s o.after j w)
+        (omega (arith, length-append (run p first i s) (run p i stop s), length_run p first i s o.after (omega arith), o.count)) in
+        let u : strip_zeros (drop n (run_of (decimal_of s))) ≡ run p r stop s =
         ap (λ (a : List ℕ). strip_zeros (drop n a)) run_is
-        ∙ ap strip_zeros (run_rest p first n i d.stop s o z.within w m)
-        ∙ strip_rest p i t d.stop r s y l k w in
-        rw (u, length_run p r d.stop s (omega arith) w, q.decimal, q.sign)
+        ∙ ap strip_zeros (run_rest p first n i stop s o z.within w m)
+        ∙ strip_rest p i t stop r s y l k w in
+        rw (u, length_run p r stop s (omega arith) w, q.decimal, q.sign)
         (last_at r (omega (arith, z.after, o.after, y.after)) (omega arith) (y.apart l))
 
-    pub placed : Placed s first d
+    pub placed : Placed s first stop found
     unfolding second_point
     placed =
         record {
-          letter = letter_is s start d.stop q c.stop;
-          second = λ k. rw (q.decimal, q.sign) (second_place (length s) start dec (fits s start d c h) (omega (arith, c.second, c.stop)) ∙ sym c.second);
+          letter = letter_is s start stop q c.stops;
+          second = λ k. rw (q.decimal, q.sign) (second_place (length s) start dec (fits s start stop found c h) (omega (arith, c.second, c.stops)) ∙ sym c.second);
           cut = cut-is;
         }

@@ -1,15 +1,19 @@
 -- What one pass over the decimal part of a text finds: document 01, 'Reading text', steps 4 and 6.
-use Rattle.std.specs.Prelude.{◌≡◌, ◌⊎◌, Bool, true, false, cond, ◌&&◌, ◌||◌, List, [], ◌∷◌, ℕ, ◌+◌, ◌-◌, ◌*◌, ◌^◌, ◌≤◌, ◌<◌, eqb, length, drop, get_or}
+use Rattle.std.specs.Prelude.{◌≡◌, Bool, true, false, cond, ◌&&◌, ◌||◌, List, [], ◌∷◌, ℕ, ◌+◌, ◌-◌, ◌*◌, ◌≤◌, ◌<◌, eqb, length, drop, get_or}
+use Rattle.std.specs.Char.{eq_ignore_ascii_case}
 use Rattle.std.proofs.Math.Seq.{slice}
 use Rattle.meaning.specs.Reading.{is_digit, number}
 use Rattle.reading.specs.declared.scan.Found.{Found}
-use Rattle.reading.specs.declared.scan.Spans.{Spans}
 
 -- ---- the bytes of a decimal part
 
 -- a digit or a point
 abbrev pub is_plain : ℕ → Bool
 is_plain b = is_digit b || eqb b 46
+
+-- `e` in either case
+abbrev pub is_e : ℕ → Bool
+is_e b = eq_ignore_ascii_case b 101
 
 unfoldable pub all_plain : List ℕ → Bool
 all_plain [] = true
@@ -58,31 +62,18 @@ with_point m i =
       value = m.value;
     }
 
--- ---- the pass at offset i: what it has found, and finds in the decimal part that is left, is what there is from start on
-pub record Passing (s : List ℕ) (start i : ℕ) (m : Found) : Type 0 where
-  pub after : start ≤ i
-  pub within : i ≤ length s
-  pub few : m.points ≤ i
-  pub stop : i + length (decimals (drop i s)) ≡ start + length (decimals (drop start s))
-  pub points : m.points + points (decimals (drop i s)) ≡ points (decimals (drop start s))
-  pub point : cond (eqb m.points 0) (first_at 46 m.point i (decimals (drop i s))) m.point ≡ first_at 46 (length s) start (decimals (drop start s))
-  pub second : cond (eqb m.points 0) (second_at m.second i (decimals (drop i s))) (cond (eqb m.points 1) (first_at 46 m.second i (decimals (drop i s))) m.second) ≡ second_at (length s) start (decimals (drop start s))
-
--- the value is that of the digits up to i
-pub record Added (s : List ℕ) (start i : ℕ) (m : Found) : Type 0 where
-  pub value : m.value ≡ number 0 (unpointed (slice start i s))
-  pub small : m.value < 10 ^ (i - start)
+-- ---- the whole pass
 
 -- the decimal part ends at i
 abbrev pub Stopped : List ℕ → ℕ → Type 0
-Stopped s i = (length s ≤ i) ⊎ (is_plain (get_or s i 0) ≡ false)
+Stopped s i = i < length s → is_plain (get_or s i 0) ≡ false
 
--- ---- the whole pass
-pub record Scanned (s : List ℕ) (start : ℕ) (d : Spans) : Type 0 where
-  pub stop : d.stop ≡ start + length (decimals (drop start s))
-  pub points : d.found.points ≡ points (decimals (drop start s))
-  pub point : d.found.point ≡ first_at 46 (length s) start (decimals (drop start s))
-  pub second : d.found.second ≡ second_at (length s) start (decimals (drop start s))
+-- what it finds
+pub record Scanned (s : List ℕ) (start stop : ℕ) (found : Found) : Type 0 where
+  pub stops : stop ≡ start + length (decimals (drop start s))
+  pub points : found.points ≡ points (decimals (drop start s))
+  pub point : found.point ≡ first_at 46 (length s) start (decimals (drop start s))
+  pub second : found.second ≡ second_at (length s) start (decimals (drop start s))
   -- only of a short text, with at most 19 bytes from start on: nothing is said about the value of a longer one
-  pub value : length s ≤ start + 19 → d.found.value ≡ number 0 (unpointed (slice start d.stop s))
-  pub ended : Stopped s d.stop
+  pub value : length s ≤ start + 19 → found.value ≡ number 0 (unpointed (slice start stop s))
+  pub ended : Stopped s stop

@@ -1,36 +1,35 @@
 -- What the reader's answers tell.
-use Rattle.std.specs.Prelude.{◌≡◌, cond, ℕ, eqb}
+use Rattle.std.specs.Prelude.{◌≡◌, Result, Ok, Err}
 use Rattle.meaning.specs.Refusals.{Refusal}
-use Rattle.meaning.specs.Refusals.Refusal.{empty_exponent, invalid_exponent, invalid_coefficient, overflow, underflow, inexact_rounding, unparseable, malformed_bytes, no_room, line_too_long, not_ordered}
-use Rattle.meaning.specs.Decimal.{InRange}
-use Rattle.meaning.specs.Reading.{Located}
-use Rattle.meaning.specs.Reading.Reading.{refused, accepted}
-use Rattle.layout.specs.Unpacked.{meant, TrueCount}
-use Rattle.reading.specs.declared.answer.Answer.{Answer}
+use Rattle.meaning.specs.Refusals.Refusal.{empty_exponent, invalid_exponent, invalid_coefficient, overflow, underflow, inexact_rounding, unparseable}
+use Rattle.meaning.specs.Reading.{Located, refused_at, accepted_as}
+use Rattle.layout.specs.declared.Unpacked.{Unpacked}
+use Rattle.layout.specs.Unpacked.{meant}
+use Rattle.limbs.specs.declared.wide.ExponentError.{ExponentError}
+use Rattle.limbs.specs.declared.wide.ExponentError.TheVariants as exponent
+use Rattle.reading.specs.declared.answer.Refusal as reader
+use Rattle.reading.specs.declared.answer.Refusal.TheVariants.{EmptyExponent, InvalidExponent, InvalidCoefficient, Overflow, Underflow, InexactRounding, Unparseable}
+use Rattle.reading.specs.declared.answer.Refused.{Refused}
 
--- the refusal of a number
-unfoldable pub named : ℕ → Refusal
-named n =
-    cond (eqb n 1) empty_exponent
-    (cond (eqb n 2) invalid_exponent
-    (cond (eqb n 3) invalid_coefficient
-    (cond (eqb n 4) overflow
-    (cond (eqb n 5) underflow
-    (cond (eqb n 6) inexact_rounding
-    (cond (eqb n 7) unparseable
-    (cond (eqb n 8) malformed_bytes
-    (cond (eqb n 9) no_room
-    (cond (eqb n 10) line_too_long not_ordered)))))))))
+-- the refusal that the reader's one stands for
+abbrev pub named : reader.Refusal → Refusal
+named EmptyExponent = empty_exponent
+named InvalidExponent = invalid_exponent
+named InvalidCoefficient = invalid_coefficient
+named Overflow = overflow
+named Underflow = underflow
+named InexactRounding = inexact_rounding
+named Unparseable = unparseable
 
-unfoldable pub told : Answer → Located
-told r =
-    record {
-      reading = cond (eqb r.number 0) (accepted (meant r.value)) (refused (named r.number));
-      place = r.place;
-    }
+-- the reader's refusal of an exponent
+abbrev pub refusal_of : ExponentError → reader.Refusal
+refusal_of exponent.Invalid = InvalidExponent
+refusal_of exponent.Underflow = Underflow
 
--- an answer tells what is read and the place, and carries a value that can be packed and whose count is true
-pub record Gives (a : Located) (r : Answer) : Type 0 where
+abbrev pub told : Result Unpacked Refused → Located
+told (Ok value) = accepted_as (meant value)
+told (Err e) = refused_at (named e.refusal) e.place
+
+-- an answer tells what is read and the place; its value is in range and its count is true, as every unpacked one
+pub record Gives (a : Located) (r : Result Unpacked Refused) : Type 0 where
   pub tells : told r ≡ a
-  pub ranged : InRange (meant r.value)
-  pub counted : TrueCount r.value

@@ -1,15 +1,15 @@
 // Text to value: document 01, 'Reading text', steps 1 to 11.
 #![tactic(auto)]
 
-ghost use Rattle.std.specs.Prelude.{◌≡◌, true, map, ◌+◌, ◌-◌, ◌≤◌, ◌<◌, length, drop};
-ghost use Rattle.meaning.specs.Reading.{origin, lower, sign_length, strip_zeros, read_at, step2, step7};
-ghost use Rattle.reading.specs.Scan.{Scanned};
-ghost use Rattle.reading.specs.Run.{run, Plain};
+ghost use Rattle.std.specs.Prelude.{◌≡◌, true, map, ◌+◌, ◌-◌, ◌≤◌, ◌<◌, ◌^◌, length, drop, IsTrue};
+ghost use Rattle.meaning.specs.Reading.{origin, sign_length, read_at};
+ghost use Rattle.reading.specs.Run.{from_step2, from_step7, Plain};
 ghost use Rattle.reading.specs.Split.{start_of, Shifted};
 ghost use Rattle.reading.specs.Told.{Gives};
 
-use crate::answer::{Answer, EMPTY_EXPONENT, UNPARSEABLE};
-use crate::scan::Spans;
+use crate::answer::{Refusal, Refused};
+use crate::scan::Scan;
+use layout::Unpacked;
 use limbs::wide;
 use limbs::wide::Shift;
 
@@ -18,117 +18,108 @@ mod places;
 mod round;
 mod run;
 mod scan;
-pub mod words;
+mod words;
 
 // F: how many bytes stand after the first point.
 fn fraction(point: usize, stop: usize) -> u64
     ensures { result ≡ stop - (point + 1) }
 {
+    // `saturating_sub` twice costs two instructions more.
     if stop <= point {
-        return 0;
+        0
+    } else {
+        (stop - point - 1) as u64
     }
-    (stop - point - 1) as u64
 }
 
-// Steps 3 to 6: x = E-F, or the number of a refusal.
-fn shift(s: &[u8], start: usize, d: Spans) -> Shift
-    requires { Scanned s.now start d × (start ≤ length s.now) × (sign_length s.now ≡ start) }
-    ensures { Shifted s.now start d result }
+// Steps 3 to 6: x = E-F.
+fn shift(scan: &Scan<'_>) -> Result<Shift, Refusal>
+    ensures { Shifted scan.now.text.now scan.now.start scan.now.stop scan.now.found result }
 {
-    let stop = d.stop;
-    let f = fraction(d.found.point, stop);
-    if stop == s.len() {
-        if stop - start == d.found.points {
-            return wide::refused(UNPARSEABLE);
+    let text = scan.text;
+    let stop = scan.stop;
+    let f = fraction(scan.found.point, stop);
+    let has_digit = scan.found.points < stop - scan.start;
+    let Some(byte) = text.get(stop) else {
+        if !has_digit {
+            return Err(Refusal::Unparseable);
         }
-        return wide::minus(f);
+        return Ok(wide::minus(f));
+    };
+    if !byte.eq_ignore_ascii_case(&b'e') {
+        let rest = &text[stop..];
+        return Err(words::wrong(rest));
     }
-    if words::lower_case(s[stop]) != b'e' {
-        return wide::refused(words::wrong(s, stop));
+    if stop + 1 == text.len() {
+        return Err(Refusal::EmptyExponent);
     }
-    if stop + 1 == s.len() {
-        return wide::refused(EMPTY_EXPONENT);
+    if !has_digit {
+        return Err(Refusal::Unparseable);
     }
-    if stop - start == d.found.points {
-        return wide::refused(UNPARSEABLE);
-    }
-    wide::exponent_less(s, stop + 1, f)
+    Ok(wide::exponent_less(&text[stop + 1..], f)?)
 }
 
 // Where the text starts, after its sign.
 fn start_of(first: u8) -> usize
     ensures { result ≡ start_of first }
 {
-    if first == b'-' {
-        return 1;
-    }
-    if first == b'+' {
-        return 1;
-    }
-    0
+    if first == b'-' || first == b'+' { 1 } else { 0 }
 }
 
 // The text is short and all decimal part, with a digit and at most one point.
-fn is_plain(length: usize, start: usize, d: Spans) -> bool
-    requires { start ≤ d.stop }
-    ensures { result ≡ true → Plain length start d }
+fn is_plain(scan: &Scan<'_>) -> bool
+    ensures { IsTrue result → Plain scan.now }
 {
-    let stop = d.stop;
-    if stop != length {
+    // Each test returns by itself: joined by `&&` they cost up to ten instructions more.
+    if scan.stop != scan.text.len() {
         return false;
     }
-    let width = stop - start;
+    let width = scan.stop - scan.start;
     if scan::SHORT < width {
         return false;
     }
-    if width <= d.found.points {
+    if width <= scan.found.points {
         return false;
     }
-    if 2 <= d.found.points {
-        return false;
-    }
-    true
+    scan.found.points < 2
 }
 
 // The field of exponent 0.
 const FIELD_OF_0: u32 = 6176;
 
-// Its value: the number of its digits, and the field of -F.
-fn plain(s: &[u8], start: usize, d: Spans, negative: bool) -> Answer
-    requires { Scanned s.now start d × (start ≤ length s.now) × Plain (length s.now) start d }
-    ensures { Gives (step7 s.now negative (origin - (d.stop - (d.found.point + 1))) (strip_zeros (run d.found.point start d.stop s.now))) result }
+// The value of a plain text: the number of its digits, and the field of -F.
+fn plain(scan: &Scan<'_>) -> Unpacked
+    requires { Plain scan.now }
+    ensures { Gives (from_step7 scan.now (origin - (scan.now.stop - (scan.now.found.point + 1)))) (Ok result) }
 {
-    let field = FIELD_OF_0 - fraction(d.found.point, d.stop) as u32;
-    let c = limbs::of_u64(d.found.value);
-    answer::finite(negative, field, c, round::digits(s, start, d))
+    let field = FIELD_OF_0 - fraction(scan.found.point, scan.stop) as u32;
+    let c = limbs::of_u64(scan.found.value);
+    answer::finite(scan.negative, field, c, round::digits(scan))
 }
 
-// Steps 2 to 11, of a text that starts at start, after its sign.
-fn after_sign(s: &[u8], start: usize, negative: bool) -> Answer
-    requires { (start ≤ length s.now) × (sign_length s.now ≡ start) × (0 < length s.now) }
-    ensures { Gives (step2 s.now negative (map lower (drop start s.now))) result }
+// Steps 2 to 11, of a text after its sign.
+fn after_sign(scan: &Scan<'_>) -> Result<Unpacked, Refused>
+    ensures { Gives (from_step2 scan.now) result }
 {
-    let d = scan::scan(s, start);
-    if is_plain(s.len(), start, d) {
-        return plain(s, start, d, negative);
+    if is_plain(scan) {
+        return Ok(plain(scan));
     }
-    if d.stop == start {
-        return words::word(s, start, negative);
+    if scan.stop == scan.start {
+        return words::word(scan);
     }
-    let x = shift(s, start, d);
-    if x.number != 0 {
-        return answer::refused(x.number, places::early(s, d.stop, x.number));
+    match shift(scan) {
+        Ok(x) => round::finite(scan, x),
+        Err(refusal) => Err(refusal.at(places::early(scan.text, scan.stop, refusal))),
     }
-    round::finite(s, start, d, negative, x)
 }
 
-// What a text reads as, and where it is refused: steps 1 to 11. A value that is accepted can be packed.
-pub fn read(s: &[u8]) -> Answer
-    ensures { Gives (read_at s.now) result }
+// What a text reads as, or why and where it is refused: steps 1 to 11.
+pub fn read(text: &[u8]) -> Result<Unpacked, Refused>
+    ensures { Gives (read_at text.now) result }
 {
-    if s.len() == 0 {
-        return answer::refused(UNPARSEABLE, 0);
+    if text.is_empty() {
+        return Err(Refusal::Unparseable.at(0));
     }
-    let first = s[0];
-    after_sign(s, start_of(first), first == b'-')
+    let first = text[0];
+    after_sign(&Scan::of(text, first == b'-', start_of(first)))
 }

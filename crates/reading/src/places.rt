@@ -2,27 +2,25 @@
 ghost use Rattle.std.specs.Prelude.{◌≡◌, ◌≤◌, ◌<◌, length};
 ghost use Rattle.reading.specs.Parted.{behind, place_for};
 
-use crate::answer::{EMPTY_EXPONENT, UNPARSEABLE};
-use crate::scan;
+use crate::answer::Refusal;
 
 // The byte after the `e`, which stands at the stop, or the text's length when there is none.
-pub fn after_e(s: &[u8], stop: usize) -> usize
-    requires { stop ≤ length s.now }
-    ensures { result ≡ behind stop s.now }
+pub fn after_e(text: &[u8], stop: usize) -> usize
+    requires { stop ≤ length text.now }
+    ensures { result ≡ behind stop text.now }
 {
-    scan::least(stop + 1, s.len())
+    text.len().min(stop + 1)
 }
 
-// Steps 3 to 6: 1 at the `e`, the last byte; 7 at the stop; 2 and 5 after the `e`.
-pub fn early(s: &[u8], stop: usize, number: u32) -> usize
-    requires { (stop ≤ length s.now) × (0 < length s.now) }
-    ensures { result ≡ place_for number stop s.now }
+// Steps 3 to 6: an empty exponent at the `e`, the last byte; a wrong byte at the stop; the others after the `e`.
+pub fn early(text: &[u8], stop: usize, refusal: Refusal) -> usize
+    requires within { stop ≤ length text.now }
+    requires some { 0 < length text.now }
+    ensures { result ≡ place_for refusal stop text.now }
 {
-    if number == EMPTY_EXPONENT {
-        return s.len() - 1;
+    match refusal {
+        Refusal::EmptyExponent => text.len() - 1,
+        Refusal::Unparseable => stop,
+        _ => after_e(text, stop),
     }
-    if number == UNPARSEABLE {
-        return stop;
-    }
-    after_e(s, stop)
 }

@@ -1,120 +1,98 @@
 // The run of step 7 walked in place: the bytes of a text from one offset to another, but the one at the first point.
 ghost use Rattle.std.specs.Prelude.{◌≡◌, true, ◌+◌, ◌-◌, ◌^◌, ◌<◌, ◌≤◌, length};
-ghost use Rattle.std.proofs.Math.Seq.{slice};
 ghost use Rattle.meaning.specs.Reading.{number, all_digits};
 ghost use Rattle.limbs.specs.Value.{value};
-ghost use Rattle.reading.specs.Run.{run, counted, Offset, ZerosTo, Row};
+ghost use Rattle.reading.specs.Run.{run_of, counted, Offset, ZerosTo, Row};
 
-// Where the first byte other than `0` stands, or the end.
-pub fn first_other(s: &[u8], from: usize, to: usize, point: usize) -> usize
-    requires { (from ≤ to) × (to ≤ length s.now) }
-    ensures { ZerosTo point from to s.now result }
+use crate::scan::Scan;
+
+// Where the first byte other than `0` stands, or the end. No `Option`: it is where the rest of the run begins, which may be empty, and
+// its callers go on from there or compare it with the end.
+pub fn first_other(scan: &Scan<'_>, from: usize, to: usize) -> usize
+    requires { (from ≤ to) × (to ≤ length scan.now.text.now) }
+    ensures { ZerosTo scan.now.found.point from to scan.now.text.now result }
 {
-    let mut i = from;
-    while i < to {
-        if s[i] != b'0' {
-            if i != point {
-                return i;
-            }
+    for i in from..to {
+        if scan.text[i] != b'0' && i != scan.found.point {
+            return i;
         }
-        i += 1;
     }
-    i
+    to
 }
 
 // How many bytes there are.
-pub fn count(from: usize, to: usize, point: usize) -> usize
+pub fn count(scan: &Scan<'_>, from: usize, to: usize) -> usize
     requires { from ≤ to }
-    ensures { result ≡ counted point from to }
+    ensures { result ≡ counted scan.now.found.point from to }
 {
-    if point < from {
-        return to - from;
+    let point = scan.found.point;
+    if from <= point && point < to {
+        to - from - 1
+    } else {
+        to - from
     }
-    if to <= point {
-        return to - from;
-    }
-    to - from - 1
 }
 
 // The offset after n bytes.
-pub fn after(from: usize, n: usize, point: usize) -> usize
+pub fn after(scan: &Scan<'_>, from: usize, n: usize) -> usize
     requires { from + n < 2 ^ 63 }
-    ensures { Offset point from n result }
+    ensures { Offset scan.now.found.point from n result }
 {
+    let point = scan.found.point;
     let at = from + n;
-    if point < from {
-        return at;
+    if from <= point && point < at {
+        at + 1
+    } else {
+        at
     }
-    if at <= point {
-        return at;
+}
+
+// The number of at most eight digits behind c.
+fn push_few(c: [u32; 4], digits: &[u8]) -> [u32; 4]
+    requires row { Row digits.now (value c) }
+    requires few { length digits.now ≤ 8 }
+    ensures { value result ≡ number (value c) digits.now }
+{
+    let mut sum: u32 = 0;
+    let mut zeros: u32 = 0;
+    let mut room: u32 = 1;
+    // The bytes are added up as they are, and what `0` adds to each of them is taken off at the end.
+    for digit in digits {
+        sum = sum * 10 + u32::from(*digit);
+        zeros = zeros * 10 + u32::from(b'0');
+        room *= 10;
     }
-    at + 1
+    limbs::multiply(c, room, sum - zeros).0
 }
 
-// What the bytes of `0000` add up to in their places.
-const FOUR_ZEROS: u32 = 48 * 1111;
-
-// The number of the four digits from i on.
-fn four(s: &[u8], i: usize) -> u32
-    requires { (i + 4 ≤ length s.now) × (all_digits (slice i (i + 4) s.now) ≡ true) }
-    ensures { result ≡ number 0 (slice i (i + 4) s.now) }
-{
-    s[i] as u32 * 1000 + s[i + 1] as u32 * 100 + s[i + 2] as u32 * 10 + s[i + 3] as u32 - FOUR_ZEROS
-}
-
-// The number of the eight digits from i on.
-fn eight(s: &[u8], i: usize) -> u32
-    requires { (i + 8 ≤ length s.now) × (all_digits (slice i (i + 8) s.now) ≡ true) }
-    ensures { result ≡ number 0 (slice i (i + 8) s.now) }
-{
-    four(s, i) * 10000 + four(s, i + 4)
-}
-
-// The number of a row of less than eight digits behind c.
-fn push_few(c: [u32; 4], s: &[u8], from: usize, to: usize) -> [u32; 4]
-    requires { Row s.now from to (value c) × (to < from + 8) }
-    ensures { value result ≡ number (value c) (slice from to s.now) }
-{
-    let mut v: u32 = 0;
-    let mut by: u32 = 1;
-    let mut i = from;
-    while i < to {
-        v = v * 10 + (s[i] - b'0') as u32;
-        by = by * 10;
-        i += 1;
-    }
-    let m = limbs::multiply(c, by, v);
-    m.low
-}
-
-// The number of a row of digits behind c, eight at a time: 10^8 makes room for them.
-fn push_row(c: [u32; 4], s: &[u8], from: usize, to: usize) -> [u32; 4]
-    requires { Row s.now from to (value c) }
-    ensures { value result ≡ number (value c) (slice from to s.now) }
+// The number of a row of digits behind c, eight at a time.
+fn push_row(c: [u32; 4], digits: &[u8]) -> [u32; 4]
+    requires { Row digits.now (value c) }
+    ensures { value result ≡ number (value c) digits.now }
 {
     let mut acc = c;
-    let mut i = from;
-    while 8 <= to - i {
-        let m = limbs::multiply(acc, 100_000_000, eight(s, i));
-        let next = m.low;
-        acc = next;
-        i += 8;
+    let mut rest = digits;
+    while let Some((eight, others)) = rest.split_first_chunk::<8>() {
+        // In two steps: the check does not cover a call's result laid in a variable that holds an array.
+        let longer = push_few(acc, eight);
+        acc = longer;
+        rest = others;
     }
-    push_few(acc, s, i, to)
+    push_few(acc, rest)
 }
 
-// The number of all digits: those before gave c.
-pub fn push_digits(c: [u32; 4], s: &[u8], from: usize, to: usize, point: usize) -> [u32; 4]
-    requires row { (from ≤ to) × (to ≤ length s.now) × (all_digits (run point from to s.now) ≡ true) }
-    requires fits { (length (run point from to s.now) ≤ 34) × (value c < 10 ^ (34 - length (run point from to s.now))) }
-    ensures { value result ≡ number (value c) (run point from to s.now) }
+// The number of at most 34 bytes that are all digits.
+pub fn number(scan: &Scan<'_>, from: usize, to: usize) -> [u32; 4]
+    requires within { (from ≤ to) × (to ≤ length scan.now.text.now) }
+    requires digits { all_digits (run_of scan.now from to) ≡ true }
+    requires few { length (run_of scan.now from to) ≤ 34 }
+    ensures { value result ≡ number 0 (run_of scan.now from to) }
 {
-    if point < from {
-        return push_row(c, s, from, to);
+    let point = scan.found.point;
+    if from <= point && point < to {
+        let before = push_row([0; 4], &scan.text[from..point]);
+        push_row(before, &scan.text[point + 1..to])
+    } else {
+        push_row([0; 4], &scan.text[from..to])
     }
-    if to <= point {
-        return push_row(c, s, from, to);
-    }
-    let before = push_row(c, s, from, point);
-    push_row(before, s, point + 1, to)
 }

@@ -1,14 +1,16 @@
 // One pass over the decimal part of a text: where it stops, its points, and, of a short text, the number of its digits.
-ghost use Rattle.std.specs.Prelude.{◌≡◌, true, cond, ◌+◌, ◌-◌, ◌*◌, ◌^◌, ◌<◌, ◌≤◌, min, length};
+ghost use Rattle.std.specs.Prelude.{◌≡◌, true, ◌+◌, ◌-◌, ◌*◌, ◌^◌, ◌<◌, ◌≤◌, length};
 ghost use Rattle.std.proofs.Math.Seq.{slice};
-ghost use Rattle.meaning.specs.Reading.{is_digit, all_digits};
-ghost use Rattle.reading.specs.Scan.{none_found, with_digit, with_point, Scanned};
+ghost use Rattle.meaning.specs.Reading.{all_digits, sign_length};
+ghost use Rattle.reading.specs.Scan.{Scanned};
 
 // A text is short that has at most so many bytes after its sign. Its digits fit a u64: 10^19 < 2^64.
 pub const SHORT: usize = 19;
 
-// What the pass has found so far: where the first two points stand, or the length of the text, how many points there
-// are, and the number that the digits write. The value means nothing in a text that is not short.
+// What the pass has found so far: where the first two points stand, how many points there are, and the number that the
+// digits write. A point that is not there stands at the end of the text, so that each question about one is a single
+// comparison with an offset. The value means nothing in a text that is not short: an `Option` would be opened and closed at each
+// digit.
 #[derive(Clone, Copy)]
 pub struct Found {
     pub point: usize,
@@ -17,153 +19,150 @@ pub struct Found {
     pub value: u64,
 }
 
-// The same, and where the decimal part stops.
+impl Found {
+    ghost use Rattle.reading.specs.Scan.{none_found, with_digit, with_point};
+
+    // Nothing yet, in a text of n bytes.
+    fn none(n: usize) -> Self
+        ensures { result ≡ none_found n }
+    {
+        Self {
+            point: n,
+            second: n,
+            points: 0,
+            value: 0,
+        }
+    }
+
+    // One more digit.
+    fn with_digit(self, b: u8) -> Self
+        requires digit { (48 ≤ b) × (b ≤ 57) }
+        requires fits { self.value < 10 ^ 18 }
+        ensures { result ≡ with_digit self b }
+    {
+        Self {
+            value: self.value * 10 + u64::from(b - b'0'),
+            ..self
+        }
+    }
+
+    // One more point, at an offset in the text.
+    fn with_point(self, at: usize) -> Self
+        requires { self.points < 2 ^ 63 }
+        ensures { result ≡ with_point self at }
+    {
+        Self {
+            point: if self.points == 0 { at } else { self.point },
+            second: if self.points == 1 { at } else { self.second },
+            points: self.points + 1,
+            value: self.value,
+        }
+    }
+}
+
+// A text with its sign, where it starts after that, where its decimal part stops, and what was found in that.
 #[derive(Clone, Copy)]
-pub struct Spans {
+pub struct Scan<'a> {
+    pub text: &'a [u8],
+    pub negative: bool,
+    pub start: usize,
     pub stop: usize,
     pub found: Found,
+    ghost small: { length text.now < 2 ^ 63 },
+    ghost some: { 0 < length text.now },
+    ghost within: { start ≤ length text.now },
+    ghost signed: { sign_length text.now ≡ start },
+    ghost scanned: { Scanned text.now start stop found },
 }
 
-fn is_digit(b: u8) -> bool
-    ensures { result ≡ is_digit b }
+// All are digits: with `&` and not `&&`, eight bytes are compared at once.
+fn are_digits(bytes: &[u8; 8]) -> bool
+    ensures { result ≡ all_digits bytes.now }
 {
-    b'0' <= b && b <= b'9'
-}
-
-// One more digit.
-fn with_digit(m: Found, b: u8) -> Found
-    requires { (48 ≤ b) × (b ≤ 57) × (m.value < 10 ^ 18) }
-    ensures { result ≡ with_digit m b }
-{
-    Found {
-        point: m.point,
-        second: m.second,
-        points: m.points,
-        value: m.value * 10 + (b - b'0') as u64,
+    let mut all = true;
+    for b in bytes {
+        all &= b.is_ascii_digit();
     }
-}
-
-// Nothing yet, in a text of n bytes.
-fn none_found(n: usize) -> Found
-    ensures { result ≡ none_found n }
-{
-    Found {
-        point: n,
-        second: n,
-        points: 0,
-        value: 0,
-    }
-}
-
-fn either(first: bool, a: usize, b: usize) -> usize
-    ensures { result ≡ cond first a b }
-{
-    if first { a } else { b }
-}
-
-// One more point, at i.
-fn with_point(m: Found, i: usize) -> Found
-    requires { m.points < 2 ^ 63 }
-    ensures { result ≡ with_point m i }
-{
-    Found {
-        point: either(m.points == 0, i, m.point),
-        second: either(m.points == 1, i, m.second),
-        points: m.points + 1,
-        value: m.value,
-    }
-}
-
-// The four bytes from i on are digits: with `&` and not `&&`, all are compared at once.
-fn four_digits(s: &[u8], i: usize) -> bool
-    requires { i + 4 ≤ length s.now }
-    ensures { result ≡ all_digits (slice i (i + 4) s.now) }
-{
-    is_digit(s[i]) & is_digit(s[i + 1]) & is_digit(s[i + 2]) & is_digit(s[i + 3])
-}
-
-// The eight bytes from i on are digits.
-fn eight_digits(s: &[u8], i: usize) -> bool
-    requires { i + 8 ≤ length s.now }
-    ensures { result ≡ all_digits (slice i (i + 8) s.now) }
-{
-    four_digits(s, i) & four_digits(s, i + 4)
+    all
 }
 
 // Past digits, eight at a time.
-fn past_eights(s: &[u8], from: usize) -> usize
-    requires { from ≤ length s.now }
-    ensures { (from ≤ result) × (result ≤ length s.now) × (all_digits (slice from result s.now) ≡ true) }
+fn past_eights(text: &[u8], from: usize) -> usize
+    requires { from ≤ length text.now }
+    ensures { (from ≤ result) × (result ≤ length text.now) × (all_digits (slice from result text.now) ≡ true) }
 {
-    let mut i = from;
-    while 8 <= s.len() - i {
-        if !eight_digits(s, i) {
-            return i;
+    let mut rest = &text[from..];
+    while let Some((eight, others)) = rest.split_first_chunk::<8>() {
+        if !are_digits(eight) {
+            break;
         }
-        i += 8;
+        rest = others;
     }
-    i
+    text.len() - rest.len()
 }
 
-// The decimal part of a text that is not short. Its digits are not added up.
-fn scan_long(s: &[u8], start: usize) -> Spans
-    requires { start + 19 < length s.now }
-    ensures { Scanned s.now start result }
+// Where the decimal part of a text that is not short stops, and what is found in it. Its digits are not added up.
+fn scan_long(text: &[u8], start: usize) -> (usize, Found)
+    requires { start + 19 < length text.now }
+    ensures { Scanned text.now start result.0 result.1 }
 {
-    let mut m = none_found(s.len());
-    let mut i = past_eights(s, start);
-    while i < s.len() {
-        let b = s[i];
-        if is_digit(b) {
-            i += 1;
+    let mut found = Found::none(text.len());
+    let mut at = past_eights(text, start);
+    // No `for`: a digit is one step, and a point and the eights behind it are another.
+    while at < text.len() {
+        let b = text[at];
+        if b.is_ascii_digit() {
+            at += 1;
+        } else if b == b'.' {
+            found = found.with_point(at);
+            at = past_eights(text, at + 1);
         } else {
-            if b != b'.' {
-                return Spans { stop: i, found: m };
-            }
-            m = with_point(m, i);
-            let next = past_eights(s, i + 1);
-            i = next;
+            return (at, found);
         }
     }
-    Spans { stop: i, found: m }
+    (at, found)
 }
 
-// The decimal part of a short text. Its digits are added up.
-fn scan_short(s: &[u8], start: usize) -> Spans
-    requires { (start ≤ length s.now) × (length s.now ≤ start + 19) }
-    ensures { Scanned s.now start result }
+// The same of a short text, whose digits are added up as they come. One loop for both would ask at each byte which of the two it is in.
+fn scan_short(text: &[u8], start: usize) -> (usize, Found)
+    requires { (start ≤ length text.now) × (length text.now ≤ start + 19) }
+    ensures { Scanned text.now start result.0 result.1 }
 {
-    let mut m = none_found(s.len());
-    let mut i = start;
-    while i < s.len() {
-        let b = s[i];
-        if is_digit(b) {
-            m = with_digit(m, b);
+    let mut found = Found::none(text.len());
+    for at in start..text.len() {
+        let b = text[at];
+        if b.is_ascii_digit() {
+            found = found.with_digit(b);
+        } else if b == b'.' {
+            found = found.with_point(at);
         } else {
-            if b != b'.' {
-                return Spans { stop: i, found: m };
-            }
-            m = with_point(m, i);
+            return (at, found);
         }
-        i += 1;
     }
-    Spans { stop: i, found: m }
+    (text.len(), found)
 }
 
-// The lesser of two.
-pub fn least(a: usize, b: usize) -> usize
-    ensures { result ≡ min a b }
-{
-    if a < b { a } else { b }
-}
-
-// The decimal part of a text that starts at start.
-pub fn scan(s: &[u8], start: usize) -> Spans
-    requires { start ≤ length s.now }
-    ensures { Scanned s.now start result }
-{
-    if SHORT < s.len() - start {
-        return scan_long(s, start);
+impl<'a> Scan<'a> {
+    // The decimal part of a text that starts at an offset, after its sign.
+    pub fn of(text: &'a [u8], negative: bool, start: usize) -> Self
+        requires some { 0 < length text.now }
+        requires within { start ≤ length text.now }
+        requires signed { sign_length text.now ≡ start }
+        ensures text { result.text.now ≡ text.now }
+        ensures negative { result.negative ≡ negative }
+        ensures start { result.start ≡ start }
+    {
+        let (stop, found) = if SHORT < text.len() - start {
+            scan_long(text, start)
+        } else {
+            scan_short(text, start)
+        };
+        Self {
+            text,
+            negative,
+            start,
+            stop,
+            found,
+        }
     }
-    scan_short(s, start)
 }

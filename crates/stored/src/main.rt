@@ -3,5 +3,5 @@
 #![tactic(auto)]
 
 fn main(rt: HostRuntime) {
-    line::program::run(&rt, line::Wanted::Stored);
+    line::program::run::<line::Stored>(&rt);
 }

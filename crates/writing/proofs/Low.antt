@@ -3,7 +3,7 @@ use mathlib.Core.Path.{◌≡◌, refl, sym, ap, subst, ◌∙◌}
 use mathlib.Core.Logic.{⊎_elim}
 use mathlib.Core.List.{List, [], ◌∷◌, ◌++◌, append_assoc, append-nil}
 use Prim.Native.Nat.{ℕ, zero, suc, ◌+◌, ◌-◌, ◌*◌, ◌/◌, ◌%◌, ◌^◌, ◌≤◌, ◌<◌}
-use native.Mathlib.Nat.{add-zero, mul_left_comm, pow-zero, pow-succ', div-one, div-div-eq-div-mul, div-lt_iff_lt-mul, div-add-mod', mod-lt, mod-eq_of_lt}
+use native.Mathlib.Nat.{add-zero, mul_left_comm, pow-zero, pow-succ', div-div-eq-div-mul, div-lt_iff_lt-mul, div-add-mod', mod-lt, mod-eq_of_lt}
 use native.Mathlib.Omega.{arith}
 use lib.Pow.{pow-add}
 use lib.ListN.{length, set, length-append}
@@ -120,9 +120,6 @@ tenth {i} n h =
     div-div-eq-div-mul n 10 (10 ^ (i - 1)) ∙ rw (← pow-succ' 10 (i - 1), e)
 
 -- nothing is left to write
-pub done : (at i k n v : ℕ) (b b₀ : List ℕ) → i ≡ 0 → n / 10 ^ i ≡ v / 10 ^ k →
-    written at (low i n) b ≡ written at (low k v) b₀ → (n ≡ v / 10 ^ k) × (b ≡ written at (low k v) b₀)
+pub done : (at i n : ℕ) (b f : List ℕ) → i ≡ 0 → written at (low i n) b ≡ f → b ≡ f
 unfolding low
-done at i k n v b b₀ z q w =
-    let e = rw (z, pow-zero, div-one) at q in
-    (e, sym (written_none at b) ∙ subst (λ (j : ℕ). written at (low j n) b ≡ written at (low k v) b₀) z w)
+done at i n b f z w = sym (written_none at b) ∙ subst (λ (j : ℕ). written at (low j n) b ≡ f) z w

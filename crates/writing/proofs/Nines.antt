@@ -1,19 +1,19 @@
 -- Chunks of nine digits: those that four limbs make, and a chunk behind what is left of a number.
-use mathlib.Core.Path.{◌≡◌, sym, ap, ◌∙◌}
+use mathlib.Core.Path.{◌≡◌, refl, sym, ap, ◌∙◌}
 use mathlib.Core.List.{List, [], ◌∷◌}
 use Prim.Native.Nat.{ℕ, ◌+◌, ◌-◌, ◌*◌, ◌/◌, ◌%◌, ◌^◌, ◌≤◌, ◌<◌}
 use native.Mathlib.Nat.{lt_of_lt_of_le}
+use native.Mathlib.Numerals.{add-one, unary_clauses}
 use native.Mathlib.Omega.{arith}
-use lib.ListN.{length, get_or}
-use mir.Syntax.{w32, w64}
-use mir.Val.{Fits}
+use lib.ListN.{length, drop, get_or}
+use lib.Seq.{drop-cons}
+use Rattle.std.proofs.lemmas.List.Elements.{All-nil, All-cons}
 use Rattle.limbs.specs.Value.{value}
 use Rattle.limbs.proofs.Laws.{value_four}
 use Rattle.meaning.proofs.Numbers.{pow-le}
-use Rattle.writing.specs.Pieces.{low, Chunks}
+use Rattle.writing.specs.Pieces.{low, joined, Chunks}
 use Rattle.writing.specs.Written.{written}
-use Rattle.writing.proofs.Written.{length-written}
-use Rattle.writing.proofs.Low.{length-low, low-mod, low_put, before-below}
+use Rattle.writing.proofs.Low.{low-mod, low_put, before-below}
 
 -- a number of at most nine digits is all in its lowest limb
 first_limb : (x n : ℕ) → x + 2 ^ 32 * n < 10 ^ 9 → x ≡ x + 2 ^ 32 * n
@@ -34,43 +34,20 @@ pub whole_chunks : (a₀ a₁ a₂ a₃ n₀ n₁ n₂ q₀ q₁ q₂ : ℕ) →
     n₀ + 10 ^ 9 * (n₁ + 10 ^ 9 * (n₂ + 10 ^ 9 * (q₂ + a₃ * 79))) ≡ value (a₀ ∷ a₁ ∷ a₂ ∷ a₃ ∷ [])
 whole_chunks a₀ a₁ a₂ a₃ n₀ n₁ n₂ q₀ q₁ q₂ e f g = omega arith
 
-pub chunks_of : (a : List ℕ) → length a ≡ 4 → {n₀ n₁ n₂ n₃ : ℕ} →
-    Chunks (value (get_or a 0 0 ∷ get_or a 1 0 ∷ get_or a 2 0 ∷ get_or a 3 0 ∷ [])) n₀ n₁ n₂ n₃ → Chunks (value a) n₀ n₁ n₂ n₃
-chunks_of a l h = rw (value_four a l) h
+-- a chunk taken off
+chunk_off : (m r q : ℕ) → r + 10 ^ 9 * q < 10 ^ 9 * m → q < m
+chunk_off m r q h = omega arith
 
-module _ {n n₀ n₁ n₂ n₃ : ℕ} (all : Chunks n n₀ n₁ n₂ n₃) where
-  pub chunks_below : {m : ℕ} → n < m → n₀ + 10 ^ 9 * (n₁ + 10 ^ 9 * (n₂ + 10 ^ 9 * n₃)) < m
-  chunks_below h = rw all.whole h
-
-  pub chunks_put : (at k : ℕ) (b : List ℕ) {d : List ℕ} →
-      d ≡ written at (low k (n₀ + 10 ^ 9 * (n₁ + 10 ^ 9 * (n₂ + 10 ^ 9 * n₃)))) b → d ≡ written at (low k n) b
-  chunks_put at k b e = e ∙ rw all.whole
-
--- their sums fit: p and q are what is carried, and a, b, c are limbs
-pub second_fits : {p a b c : ℕ} → p < 2 ^ 35 → Fits w32 a → Fits w32 b → c < 2 ^ 17 → Fits w64 (p + a * 4 + b * 446744073 + c * 264337593)
-second_fits h f g l = record { fits = omega arith }
-
-pub third_begins : {p b : ℕ} → p < 2 ^ 35 → Fits w32 b → Fits w64 (p + b * 18)
-third_begins h f = record { fits = omega arith }
-
-pub third_fits : {p b c : ℕ} → p < 2 ^ 35 → Fits w32 b → c < 2 ^ 17 → Fits w64 (p + b * 18 + c * 228162514)
-third_fits h f g = record { fits = omega arith }
-
-pub fourth_fits : {p b c : ℕ} (q r : ℕ) → p < 2 ^ 35 → Fits w32 b → c < 2 ^ 17 → r + 10 ^ 9 * q ≡ p + b * 18 + c * 228162514 → Fits w32 (q + c * 79)
-fourth_fits q r h f g e = record { fits = omega arith }
-
-pub fits_more : {n : ℕ} → Fits w32 n → Fits w64 n
-fits_more f = record { fits = omega arith }
-
--- the highest limb is small
-limb_off : (B x n : ℕ) → x + 2 ^ 32 * n < 2 ^ 32 * B → n < B
-limb_off B x n h = omega arith
-
-pub top_small : (a : List ℕ) → length a ≡ 4 → (k : ℕ) → k ≤ 34 → value a < 10 ^ k → get_or a 3 0 < 2 ^ 17
-top_small a l k h b =
-    let t : 10 ^ k ≤ 2 ^ 113 = omega (arith, pow-le h) in
-    let u = limb_off (2 ^ 17) _ _ (limb_off (2 ^ 49) _ _ (limb_off (2 ^ 81) _ _ (rw (value_four a l) at (lt_of_lt_of_le b t)))) in
-    omega (arith, u)
+pub chunks_of : (n₃ : ℕ) {n n₀ n₁ n₂ : ℕ} → n₀ < 10 ^ 9 → n₁ < 10 ^ 9 → n₂ < 10 ^ 9 → n < 10 ^ 34 →
+    n₀ + 10 ^ 9 * (n₁ + 10 ^ 9 * (n₂ + 10 ^ 9 * n₃)) ≡ n → Chunks n (n₀ ∷ n₁ ∷ n₂ ∷ n₃ ∷ [])
+unfolding joined
+chunks_of n₃ a b c l e =
+    let small = λ (m : ℕ). m < 10 ^ 9 in
+    let d : n₃ < 10 ^ 7 = chunk_off (10 ^ 7) _ _ (chunk_off (10 ^ 16) _ _ (chunk_off (10 ^ 25) _ _ (rw (← e) at l))) in
+    record {
+      nine = All-cons small _ (_ ∷ _ ∷ n₃ ∷ []) a (All-cons small _ (_ ∷ n₃ ∷ []) b (All-cons small _ (n₃ ∷ []) c (All-cons small n₃ [] (omega arith) (All-nil small))));
+      whole = simp unary_clauses e;
+    }
 
 -- ---- the last nine digits r of a number, and q before them
 
@@ -90,17 +67,30 @@ chunk_below k r q h n l = rw (before_nine r q n) (before-below 9 (k - 9) k (r + 
 pub first_below : {m : ℕ} (r q : ℕ) → r + 10 ^ 9 * q < m → r < m
 first_below r q h = omega arith
 
-module _ (at k r : ℕ) (b : List ℕ) {c : List ℕ} (many : 9 < k) (room : at + k ≤ length b) (e : c ≡ written (at + (k - 9)) (low 9 r) b) where
-  pub chunk_room : at + (k - 9) ≤ length c
-  chunk_room = omega (arith, ap length e ∙ length-written (at + (k - 9)) (low 9 r) b (rw length-low (omega arith)))
+chunk_put : (at k r q : ℕ) (b : List ℕ) {c d : List ℕ} → 9 < k → at + k ≤ length b → r < 10 ^ 9 → c ≡ written (at + (k - 9)) (low 9 r) b →
+    d ≡ written at (low (k - 9) q) c → d ≡ written at (low k (r + 10 ^ 9 * q)) b
+chunk_put at k r q b {c} many room n e f =
+    low_put 9 at (k - 9) k (r + 10 ^ 9 * q) b (omega arith) room (e ∙ rw (last_nine r q n))
+    (f ∙ ap (λ (m : ℕ). written at (low (k - 9) m) c) (before_nine r q n))
 
-  pub chunk_put : (q : ℕ) {d : List ℕ} → r < 10 ^ 9 → d ≡ written at (low (k - 9) q) c → d ≡ written at (low k (r + 10 ^ 9 * q)) b
-  chunk_put q n f = low_put 9 at (k - 9) k (r + 10 ^ 9 * q) b (omega arith) room (e ∙ rw (last_nine r q n))
-      (f ∙ ap (λ (m : ℕ). written at (low (k - 9) m) c) (before_nine r q n))
+-- ---- a loop over the chunks: left digits are those of the chunks from the i-th on
+
+module _ (ns : List ℕ) (i left : ℕ) (here : i < length ns) where
+  joined_from : joined (drop i ns) ≡ get_or ns i 0 + 10 ^ 9 * joined (drop (i + 1) ns)
+  unfolding joined
+  joined_from = rw (add-one, drop-cons ns i 0)
+
+  pub chunk_first : joined (drop i ns) < 10 ^ left → get_or ns i 0 < 10 ^ left
+  chunk_first l = first_below _ _ (rw joined_from at l)
 
   -- at most nine are left, and so all are in one chunk
-  pub chunk_few : (n q : ℕ) {d : List ℕ} → k ≤ 18 → r < 10 ^ 9 → n + 10 ^ 9 * q < 10 ^ (k - 9) →
-      d ≡ written at (low (k - 9) n) c → d ≡ written at (low k (r + 10 ^ 9 * (n + 10 ^ 9 * q))) b
-  chunk_few n q h l m f =
-      let e : n ≡ n + 10 ^ 9 * q = omega (arith, pow-le {i = k - 9} {j = 9} (omega arith)) in
-      chunk_put (n + 10 ^ 9 * q) l (f ∙ ap (λ (i : ℕ). written at (low (k - 9) i) c) e)
+  pub chunk_last : left ≤ 9 → joined (drop i ns) < 10 ^ left → get_or ns i 0 ≡ joined (drop i ns)
+  chunk_last few l = omega (arith, joined_from, pow-le {i = left} {j = 9} few)
+
+  pub chunks_after : 9 < left → get_or ns i 0 < 10 ^ 9 → joined (drop i ns) < 10 ^ left → joined (drop (i + 1) ns) < 10 ^ (left - 9)
+  chunks_after many n l = chunk_below left _ _ many n (rw joined_from at l)
+
+  pub chunk_turn : (at : ℕ) (b : List ℕ) {c : List ℕ} → 9 < left → at + left ≤ length b → get_or ns i 0 < 10 ^ 9 →
+      c ≡ written (at + (left - 9)) (low 9 (get_or ns i 0)) b →
+      written at (low (left - 9) (joined (drop (i + 1) ns))) c ≡ written at (low left (joined (drop i ns))) b
+  chunk_turn at b many room n e = rw joined_from (chunk_put at left _ _ b many room n e refl)

@@ -1,42 +1,28 @@
 -- The point in a text of digits, two ways: the digits are written one byte further on, and those before the point are then moved
 -- back; or those behind the point are written first, then the point and those before it.
-use mathlib.Core.Path.{◌≡◌, refl, sym, ap, subst, ◌∙◌}
+use mathlib.Core.Path.{◌≡◌, refl, sym, ap, ◌∙◌}
 use mathlib.Core.List.{List, [], ◌∷◌, ◌++◌, append_assoc}
 use Prim.Native.Nat.{ℕ, ◌+◌, ◌-◌, ◌/◌, ◌^◌, ◌≤◌, ◌<◌}
 use native.Mathlib.Omega.{arith}
-use lib.ListN.{length, take, drop, set, get_or, length-append, length-drop}
-use lib.Seq.{length-take-le, take_at, drop_at, drop-drop, get_or-drop, take-append-le, take-take, drop-append-le}
+use lib.ListN.{length, take, drop, set, length-append, length-drop}
+use lib.Seq.{length-take-le, take_at, drop_at, drop-drop, take-append-le, take-take, drop-append-le}
+use Rattle.std.specs.List.{copy_within}
 use Rattle.writing.specs.Pieces.{low}
 use Rattle.writing.specs.Written.{written}
-use Rattle.writing.proofs.Written.{written_one, length-written, written-before, Filling, push, push_next}
+use Rattle.writing.proofs.Written.{written_one, length-written, written-before, follow}
 use Rattle.writing.proofs.Low.{length-low, low_split}
 
--- a write leaves what stands beyond it
-beyond : (at r : ℕ) (s b : List ℕ) → at ≤ length b → get_or (written at s b) (at + length s + r) 0 ≡ get_or b (at + length s + r) 0
+-- m bytes go one to the left, and the point behind them
+pub point_put : (at m : ℕ) (b : List ℕ) {c : List ℕ} → at + m < length b → c ≡ copy_within b (at + 1) (at + 1 + m) at →
+    set c (at + m) 46 ≡ written at (take m (drop (at + 1) b) ++ 46 ∷ []) b
 unfolding written
-beyond at r s b h =
-    let p : length (take at b ++ s) ≡ at + length s = length-append (take at b) s ∙ rw (length-take-le at b h) in
-    rw (← append_assoc (take at b) s (drop (at + length s) b), ← get_or-drop (at + length s) (take at b ++ s ++ drop (at + length s) b) r 0, drop_at (take at b ++ s) (drop (at + length s) b) (at + length s) p)
-    (get_or-drop (at + length s) b r 0)
-
--- one more of the bytes from at + 1 on goes one to the left
-pub push_left : (at i : ℕ) {b₀ b : List ℕ} → Filling at (take i (drop (at + 1) b₀)) b₀ b → at + i + 1 < length b₀ → Filling at (take (i + 1) (drop (at + 1) b₀)) b₀ (set b (at + i) (get_or b (at + i + 1) 0))
-push_left at i {b₀} {b} l r =
-    let s = drop (at + 1) b₀ in
-    let k : length s ≡ length b₀ - (at + 1) = length-drop (at + 1) b₀ in
-    let n : length (take i s) ≡ i = length-take-le i s (omega arith) in
-    let p : get_or b (at + i + 1) 0 ≡ get_or b₀ (at + i + 1) 0 =
-    rw l.holds (subst (λ (j : ℕ). get_or (written at (take i s) b₀) (at + j + 1) 0 ≡ get_or b₀ (at + j + 1) 0) n (beyond at 1 (take i s) b₀ (omega arith))) in
-    let q : at + i + 1 ≡ at + 1 + i = omega arith in
-    let e : get_or b (at + i + 1) 0 ≡ get_or s i 0 = p ∙ ap (λ (j : ℕ). get_or b₀ j 0) q ∙ sym (get_or-drop (at + 1) b₀ i 0) in
-    rw e (push_next s at i l (omega arith) (omega arith))
-
--- the point behind them
-pub push_point : (at m i : ℕ) {b₀ b : List ℕ} → i ≡ m → Filling at (take i (drop (at + 1) b₀)) b₀ b → at + m < length b₀ → set b (at + m) 46 ≡ written at (take m (drop (at + 1) b₀) ++ 46 ∷ []) b₀
-push_point at m i {b₀} e l r =
-    let k : length (drop (at + 1) b₀) ≡ length b₀ - (at + 1) = length-drop (at + 1) b₀ in
-    let n : length (take m (drop (at + 1) b₀)) ≡ m = length-take-le m (drop (at + 1) b₀) (omega arith) in
-    (push 46 (rw e at l) refl (rw n) r).holds
+point_put at m b {c} h e =
+    let s = take m (drop (at + 1) b) in
+    let n : length s ≡ m = length-take-le m (drop (at + 1) b) (simp length-drop (omega arith)) in
+    let d : at + 1 + m - (at + 1) ≡ m = omega arith in
+    let moved : c ≡ written at s b = e ∙ rw (d, n) (simp append_assoc) in
+    let l : length c ≡ length b = ap length moved ∙ length-written at s b (omega arith) in
+    follow at (at + m) s (46 ∷ []) b moved (written_one (at + m) 46 c (omega arith)) (rw n) (omega arith)
 
 -- ---- the digits ds from at + 1 on, and the first m of them moved
 
@@ -77,9 +63,6 @@ module _ (at m : ℕ) (ds b : List ℕ) (within : m ≤ length ds) (fits : at + 
 pub front_in : (at m v : ℕ) (b : List ℕ) {d : List ℕ} → at + m < length b → d ≡ written at (low m v) (set b (at + m) 46) → d ≡ written at (low m v ++ 46 ∷ []) b
 front_in at m v b h e =
     e ∙ rw (written_one (at + m) 46 b h) (written-before at (at + m) (low m v) (46 ∷ []) b (rw length-low) (omega arith))
-
-pub front_long : (at m v : ℕ) (b : List ℕ) {d : List ℕ} → at + m < length b → d ≡ written at (low m v ++ 46 ∷ []) b → length d ≡ length b
-front_long at m v b h e = ap length e ∙ length-written at (low m v ++ 46 ∷ []) b (simp (length-append, length-low) (omega arith))
 
 pub around : (at k m v : ℕ) (b : List ℕ) {c d : List ℕ} → m ≤ k → at + k < length b →
     c ≡ written (at + m + 1) (low (k - m) v) b → d ≡ written at (low m (v / 10 ^ (k - m)) ++ 46 ∷ []) c →

@@ -1,5 +1,5 @@
 -- Laws of the pieces of a text: their lengths, and what stands where.
-use mathlib.Core.Path.{◌≡◌, refl, sym, ap, ◌∙◌}
+use mathlib.Core.Path.{◌≡◌, refl, ap, ◌∙◌}
 use mathlib.Core.Logic.{◌⊎◌, inl, inr, ⊎_elim}
 use mathlib.Core.Bool.{Bool, true, false, and-false}
 use mathlib.Core.List.{List, [], ◌∷◌, ◌++◌, append-nil}
@@ -9,14 +9,14 @@ use native.Mathlib.Omega.{arith}
 use lib.Dec.{leb}
 use lib.ListN.{length, take, set, get_or, replicate, length-append, length-drop, length-replicate}
 use lib.Seq.{length-take-le, take-suc, take_all}
-use borrow.Author.Tests.{lt-ltb, le-ltb, ne_eqb, le-leb, lt-leb}
+use borrow.Author.Tests.{lt-ltb, le-ltb, le-leb, lt-leb}
 use Rattle.meaning.specs.Reading.{bytes}
 use Rattle.meaning.specs.Writing.{decimal, plain, magnitude, signed, hex_digit, hexes, debug_text}
 use Rattle.meaning.proofs.Numbers.{le_or}
 use Rattle.meaning.proofs.Digits.{last, few, decimal_some}
 use Rattle.writing.specs.Pieces.{Sized, sign, point_at, head, head_length, tail, Tailed}
 use Rattle.writing.specs.Written.{written}
-use Rattle.writing.proofs.Written.{Filling, follow, push_text, written_one, length-written}
+use Rattle.writing.proofs.Written.{follow, written_one, length-written}
 
 -- ---- the sign
 
@@ -59,32 +59,24 @@ module _ (ds : List ℕ) where
   unfolding head
   head_one e = simp (le-ltb 1 (length ds) (omega arith)) (append-nil (take 1 ds) ∙ take_all 1 ds (omega arith))
 
-  pub length_point : (m : ℕ) → m ≤ length ds → length (point_at m ds) ≡ length ds + 1
-  length_point m h =
-      let n : length (take m ds) ≡ m = length-take-le m ds h in
+  pub length_point : (m : ℕ) {k : ℕ} → k ≡ length ds → m ≤ k → k + 1 ≡ length (point_at m ds)
+  length_point m e h =
+      let n : length (take m ds) ≡ m = length-take-le m ds (omega arith) in
       simp (length-append, n, length-drop) (omega arith)
 
   pub length-head : {k : ℕ} → k ≡ length ds → 1 ≤ k → head_length k ≡ length (head ds)
   length-head e h =
       rw e
       (⊎_elim
-      (λ g. rw (head_more g, lt-ltb 1 (length ds) g) (sym (length_point 1 (omega arith))))
+      (λ g. rw (head_more g, lt-ltb 1 (length ds) g) (length_point 1 refl (omega arith)))
       (λ g. rw (head_one (omega arith), le-ltb 1 (length ds) (omega arith)))
       (le_or 2 (length ds)))
 
-  pub length_small : (p k : ℕ) → k ≡ length ds → k ≤ p → length (48 ∷ 46 ∷ replicate (p - k) 48 ++ ds) ≡ p + 2
-  length_small p k e h = simp (length-append, length-replicate) (omega arith)
+  pub length_small : (p : ℕ) {k : ℕ} → k ≡ length ds → k ≤ p → 2 + p ≡ length (48 ∷ 46 ∷ replicate (p - k) 48 ++ ds)
+  length_small p e h = simp (length-append, length-replicate) (omega arith)
 
-  -- ---- plain notation
-
-  pub plain_whole : (p : ℕ) → p ≡ 0 → plain ds p ≡ ds
-  plain_whole p e = rw e
-
-  pub plain_pointed : (p : ℕ) → (p ≡ 0 → ⊥) → p < length ds → plain ds p ≡ point_at (length ds - p) ds
-  plain_pointed p z h = simp (ne_eqb p 0 z, lt-leb (length ds) p h)
-
-  pub plain_small : (p : ℕ) → (p ≡ 0 → ⊥) → length ds ≤ p → plain ds p ≡ 48 ∷ 46 ∷ replicate (p - length ds) 48 ++ ds
-  plain_small p z h = simp (ne_eqb p 0 z, le-leb (length ds) p h)
+  pub length_power : (f : ℕ) {h n : ℕ} → h ≡ length (head ds) → Tailed f n → h + n ≡ length (head ds ++ tail f)
+  length_power f e t = omega (arith, t.count, length-append (head ds) (tail f))
 
   -- ---- which notation
 
@@ -98,10 +90,12 @@ module _ (ds : List ℕ) where
   magnitude_power e (inr h) = simp (lt-leb 6171 (e + length ds) h, and-false (leb e 6176))
 
 -- `0.`, zeros and the digits, one behind the other
-pub small_in : (at p k : ℕ) (ds b : List ℕ) {c d r : List ℕ} → k ≡ length ds → k ≤ p → at + p + 2 ≤ length b → c ≡ written at (48 ∷ 46 ∷ []) b → d ≡ written (at + 2) (replicate (p - k) 48) c → r ≡ written (at + p + 2 - k) ds d → r ≡ written at (48 ∷ 46 ∷ replicate (p - k) 48 ++ ds) b
-small_in at p k ds b n h l e f g =
+pub small_in : (at n p k : ℕ) (ds b : List ℕ) {c d r : List ℕ} → k ≡ length ds → k ≤ p → n + k ≡ at + p + 2 → at + p + 2 ≤ length b →
+    c ≡ written at (48 ∷ 46 ∷ []) b → d ≡ written (at + 2) (replicate (p - k) 48) c → r ≡ written n ds d →
+    r ≡ written at (48 ∷ 46 ∷ replicate (p - k) 48 ++ ds) b
+small_in at n p k ds b l h s room e f g =
     let z = length-replicate {A = ℕ} (p - k) 48 in
-    follow at (at + p + 2 - k) (48 ∷ 46 ∷ replicate (p - k) 48) ds b
+    follow at n (48 ∷ 46 ∷ replicate (p - k) 48) ds b
     (follow at (at + 2) (48 ∷ 46 ∷ []) (replicate (p - k) 48) b e f refl (omega arith))
     g
     (omega arith)
@@ -120,10 +114,11 @@ length-hexes [] = refl
 length-hexes (x ∷ s) = omega (arith, length-hexes s)
 
 -- one byte more
-pub push_hex : (s : List ℕ) (at i : ℕ) {b₀ b c : List ℕ} → i < length s → at + 2 * length s ≤ length b₀ → Filling at (hexes (take i s)) b₀ b → c ≡ written (at + 2 * i) (hexes (get_or s i 0 ∷ [])) b → Filling at (hexes (take (i + 1) s)) b₀ c
-push_hex s at i h r l f =
+pub push_hex : (s : List ℕ) (at i : ℕ) (b₀ : List ℕ) {b c : List ℕ} → i < length s → at + 2 * length s ≤ length b₀ → b ≡ written at (hexes (take i s)) b₀ →
+    c ≡ written (at + 2 * i) (hexes (get_or s i 0 ∷ [])) b → c ≡ written at (hexes (take (i + 1) s)) b₀
+push_hex s at i b₀ h room e f =
     let n : length (hexes (take i s)) ≡ 2 * i = length-hexes (take i s) ∙ rw (length-take-le i s (omega arith)) in
-    push_text (hexes (get_or s i 0 ∷ [])) l f (rw (add-one, take-suc s i 0 h, hexes-append)) (rw n) (omega (arith, length-hexes (get_or s i 0 ∷ [])))
+    follow at (at + 2 * i) (hexes (take i s)) (hexes (get_or s i 0 ∷ [])) b₀ e f (rw n) (omega arith) ∙ rw (add-one, take-suc s i 0 h, hexes-append)
 
 -- ---- the debug form
 
@@ -141,5 +136,5 @@ module _ (s : List ℕ) (sixteen : length s ≡ 16) where
       follow 0 43 (bytes "Decimal128(" ++ hexes s) (bytes ")") b
       (follow 0 11 (bytes "Decimal128(") (hexes s) b e f refl (omega arith))
       (written_one 43 41 d (omega arith))
-      (simp (length-append, n) (omega arith))
+      (simp n (omega arith))
       (omega arith)

@@ -1,5 +1,5 @@
 -- The pieces of a text: document 01, 'Writing text'.
-use Rattle.std.specs.Prelude.{◌≡◌, Bool, cond, List, [], ◌∷◌, ◌++◌, ℕ, zero, suc, ◌+◌, ◌*◌, ◌/◌, ◌%◌, ◌^◌, ◌≤◌, ◌<◌, ltb, length, take, drop}
+use Rattle.std.specs.Prelude.{◌≡◌, Bool, cond, List, [], ◌∷◌, ◌++◌, ℕ, zero, suc, ◌+◌, ◌*◌, ◌/◌, ◌%◌, ◌^◌, ◌≤◌, ◌<◌, ltb, length, take, drop, All}
 use Rattle.meaning.specs.Writing.{decimal, exponent_text, signed}
 
 -- n is a coefficient of k digits; the bounds of k follow, and stand here for those who count bytes
@@ -40,9 +40,12 @@ unfoldable pub low : ℕ → ℕ → List ℕ
 low zero n = []
 low (suc k) n = low k (n / 10) ++ (48 + n % 10) ∷ []
 
+-- chunks of nine digits, the lowest first, as one number
+unfoldable pub joined : List ℕ → ℕ
+joined [] = 0
+joined (n ∷ ns) = n + 10 ^ 9 * joined ns
+
 -- n in chunks of nine digits, the lowest first
-pub record Chunks (n n₀ n₁ n₂ n₃ : ℕ) : Type 0 where
-  pub nine₀ : n₀ < 10 ^ 9
-  pub nine₁ : n₁ < 10 ^ 9
-  pub nine₂ : n₂ < 10 ^ 9
-  pub whole : n₀ + 10 ^ 9 * (n₁ + 10 ^ 9 * (n₂ + 10 ^ 9 * n₃)) ≡ n
+pub record Chunks (n : ℕ) (ns : List ℕ) : Type 0 where
+  pub nine : All (λ m. m < 10 ^ 9) ns
+  pub whole : joined ns ≡ n

@@ -1,4 +1,4 @@
-// The end of a text in exponential notation. Here f is the exponent of the first digit + 6177.
+// The end of a text in exponential notation: `E`, and the adjusted exponent, which is that of the first digit. It is passed + 6177.
 ghost use Rattle.std.specs.Prelude.{◌≡◌, ◌∷◌, ◌+◌, ◌<◌, ◌≤◌, length};
 ghost use Rattle.meaning.specs.Writing.{decimal};
 ghost use Rattle.writing.specs.Pieces.{tail, Tailed};
@@ -6,55 +6,41 @@ ghost use Rattle.writing.specs.Written.{written};
 
 use crate::{digits, pieces};
 
-// How many digits v has.
-fn count(v: u32) -> usize
-    requires { v < 10000 }
-    ensures { (result ≡ length (decimal v)) × (result ≤ 4) }
-{
-    if v < 10 {
-        1
-    } else if v < 100 {
-        2
-    } else if v < 1000 {
-        3
-    } else {
-        4
-    }
-}
-
 // How many bytes `E`, the mark and the digits take.
-pub fn tail_len(f: u32) -> usize
-    requires { f < 16177 }
-    ensures { Tailed f result }
+pub fn tail_len(adjusted: u32) -> usize
+    requires { adjusted < 16177 }
+    ensures { Tailed adjusted result }
 {
-    if 6177 < f {
-        return 2 + count(f - 6177);
+    if 6177 < adjusted {
+        2 + limbs::count::of_u64((adjusted - 6177) as u64)
+    } else if adjusted < 6177 {
+        2 + limbs::count::of_u64((6177 - adjusted) as u64)
+    } else {
+        2
     }
-    if f < 6177 {
-        return 2 + count(6177 - f);
-    }
-    2
 }
 
-// `E`, a mark and the digits of v, of which there are k, from `at` on.
-fn put_marked(buf: &mut [u8], at: usize, mark: u8, k: usize, v: u32)
-    requires { (k ≡ length (decimal v)) × (at + 2 + k ≤ length buf.old) }
-    ensures { buf.new ≡ written at (69 ∷ mark ∷ decimal v) buf.old }
+// `E`, a mark and the digits of a number, of which there are `count`, from `at` on.
+fn put_marked(buf: &mut [u8], at: usize, mark: u8, count: usize, number: u32)
+    requires count { count ≡ length (decimal number) }
+    requires room { at + 2 + count ≤ length buf.old }
+    ensures { buf.new ≡ written at (69 ∷ mark ∷ decimal number) buf.old }
 {
     pieces::put_two(buf, at, b'E', mark);
-    digits::put_low(buf, at + 2, k, v);
+    digits::put_low(buf, at + 2, count, number);
 }
 
-// `E`, `+` or `-`, and the exponent, n bytes in all, from `at` on.
-pub fn put_tail(buf: &mut [u8], at: usize, n: usize, f: u32)
-    requires { Tailed f n × (at + n ≤ length buf.old) }
-    ensures { buf.new ≡ written at (tail f) buf.old }
+// `E`, `+` or `-`, and the exponent, `len` bytes in all, from `at` on.
+pub fn put_tail(buf: &mut [u8], at: usize, len: usize, adjusted: u32)
+    requires len { Tailed adjusted len }
+    requires room { at + len ≤ length buf.old }
+    ensures { buf.new ≡ written at (tail adjusted) buf.old }
 {
-    if 6177 < f {
-        put_marked(buf, at, b'+', n - 2, f - 6177);
-    } else if f < 6177 {
-        put_marked(buf, at, b'-', n - 2, 6177 - f);
+    if 6177 < adjusted {
+        put_marked(buf, at, b'+', len - 2, adjusted - 6177);
+    } else if adjusted < 6177 {
+        put_marked(buf, at, b'-', len - 2, 6177 - adjusted);
     } else {
-        pieces::put_two(buf, at, b'E', b'0');
+        pieces::put_all(buf, at, b"E0");
     }
 }

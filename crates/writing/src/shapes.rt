@@ -1,109 +1,93 @@
-// The shapes of a text with a sign. Each knows its length first, and writes nothing where there is no room.
-ghost use Rattle.std.specs.Prelude.{◌≡◌, ◌∷◌, ◌++◌, ◌+◌, ◌-◌, ◌<◌, ◌≤◌, length, replicate};
+// The shapes of a text with a sign. Each says its length first, and writes nothing where there is no room. Buffer, sign and coefficient
+// are three arguments: a struct of them would borrow the buffer in `write` and be taken apart in each shape.
+ghost use Rattle.std.specs.Prelude.{◌≡◌, ◌∷◌, ◌++◌, ◌+◌, ◌-◌, ◌^◌, ◌<◌, ◌≤◌, length, replicate, IfOk, OnOk, OnErr};
 ghost use Rattle.limbs.specs.Value.{value};
-ghost use Rattle.meaning.specs.Reading.{bytes};
 ghost use Rattle.meaning.specs.Writing.{decimal, signed};
-ghost use Rattle.writing.specs.Pieces.{Sized, point_at, head, head_length, tail};
+ghost use Rattle.writing.specs.Pieces.{sign, point_at, head, tail};
 ghost use Rattle.writing.specs.Put.{Puts};
 ghost use Rattle.writing.specs.Written.{written};
 
-use crate::{Put, digits, exponent, pieces};
+use crate::coefficient::Coefficient;
+use crate::{NoRoom, exponent, pieces};
 
-// `Infinity`.
-pub fn infinity(buf: &mut [u8], negative: bool) -> Put
-    ensures { Puts (signed negative (bytes "Infinity")) buf.old result buf.new }
+// Where a text of `len` bytes starts behind its sign, if both have room.
+fn start(buf: &[u8], negative: bool, len: usize) -> Result<usize, NoRoom>
+    requires { length (sign negative) + len < 2 ^ 64 }
+    ensures at { IfOk result (λ at. at ≡ length (sign negative)) }
+    ensures room { OnOk result (length (sign negative) + len ≤ length buf.now) }
+    ensures no_room { OnErr result (length buf.now < length (sign negative) + len) }
 {
-    let at = pieces::sign_len(negative);
-    let n = at + 8;
-    if buf.len() < n {
-        return Put::NoRoom;
+    let at = usize::from(negative);
+    if buf.len() < at + len {
+        return Err(NoRoom);
     }
+    Ok(at)
+}
+
+// A text that is known beforehand.
+pub fn known(buf: &mut [u8], negative: bool, text: &[u8]) -> Result<usize, NoRoom>
+    requires { length (signed negative text.now) < 2 ^ 64 }
+    ensures { Puts (signed negative text.now) buf.old result buf.new }
+{
+    let at = start(buf, negative, text.len())?;
     pieces::put_sign(buf, negative);
-    pieces::put_all(buf, at, b"Infinity");
-    Put::Done(n)
+    pieces::put_all(buf, at, text);
+    Ok(at + text.len())
 }
 
 // A whole number: 1234E0 -> 1234
-pub fn whole(buf: &mut [u8], negative: bool, c: [u32; 4], k: usize) -> Put
-    requires { Sized (value c) k }
-    ensures { Puts (signed negative (decimal (value c))) buf.old result buf.new }
+pub fn whole(buf: &mut [u8], negative: bool, c: Coefficient) -> Result<usize, NoRoom>
+    ensures { Puts (signed negative (decimal (value c.limbs))) buf.old result buf.new }
 {
-    let at = pieces::sign_len(negative);
-    let n = at + k;
-    if buf.len() < n {
-        return Put::NoRoom;
-    }
+    let at = start(buf, negative, c.digits)?;
     pieces::put_sign(buf, negative);
-    digits::put_digits(buf, at, k, c);
-    Put::Done(n)
+    c.put(buf, at);
+    Ok(at + c.digits)
 }
 
-// The point stands before the last p of the k digits: 1234E-2 -> 12.34
-pub fn pointed(buf: &mut [u8], negative: bool, c: [u32; 4], k: usize, p: usize) -> Put
-    requires { Sized (value c) k × (p < k) }
-    ensures { Puts (signed negative (point_at (k - p) (decimal (value c)))) buf.old result buf.new }
+// The point stands before the last `places` digits: 1234E-2 -> 12.34
+pub fn pointed(
+    buf: &mut [u8],
+    negative: bool,
+    c: Coefficient,
+    places: usize,
+) -> Result<usize, NoRoom>
+    requires { places < c.digits }
+    ensures { Puts (signed negative (point_at (c.digits - places) (decimal (value c.limbs)))) buf.old result buf.new }
 {
-    let at = pieces::sign_len(negative);
-    let n = at + k + 1;
-    if buf.len() < n {
-        return Put::NoRoom;
-    }
+    let len = c.digits + 1;
+    let at = start(buf, negative, len)?;
     pieces::put_sign(buf, negative);
-    pieces::put_pointed(buf, at, k, k - p, c);
-    Put::Done(n)
+    c.put_pointed(buf, at, c.digits - places);
+    Ok(at + len)
 }
 
-// `0.`, p - k zeros and the digits: 12E-5 -> 0.00012
-pub fn small(buf: &mut [u8], negative: bool, c: [u32; 4], k: usize, p: usize) -> Put
-    requires { Sized (value c) k × (k ≤ p) × (p ≤ 39) }
-    ensures { Puts (signed negative (48 ∷ 46 ∷ replicate (p - k) 48 ++ decimal (value c))) buf.old result buf.new }
+// `0.`, zeros and the digits, which end at the last of the places: 12E-5 -> 0.00012
+pub fn small(buf: &mut [u8], negative: bool, c: Coefficient, places: usize) -> Result<usize, NoRoom>
+    requires within { c.digits ≤ places }
+    requires few { places ≤ 39 }
+    ensures { Puts (signed negative (48 ∷ 46 ∷ replicate (places - c.digits) 48 ++ decimal (value c.limbs))) buf.old result buf.new }
 {
-    let at = pieces::sign_len(negative);
-    let n = at + p + 2;
-    if buf.len() < n {
-        return Put::NoRoom;
-    }
+    let len = 2 + places;
+    let at = start(buf, negative, len)?;
     pieces::put_sign(buf, negative);
-    pieces::put_two(buf, at, b'0', b'.');
-    pieces::put_zeros(buf, at + 2, p - k);
-    digits::put_digits(buf, n - k, k, c);
-    Put::Done(n)
-}
-
-// How many bytes the digits take in exponential notation.
-fn head_len(k: usize) -> usize
-    requires { k ≤ 34 }
-    ensures { (result ≡ head_length k) × (result ≤ 35) }
-{
-    if 1 < k { k + 1 } else { k }
-}
-
-// The first of the k digits, and where there are more a point and the rest.
-fn put_head(buf: &mut [u8], at: usize, k: usize, c: [u32; 4])
-    requires { Sized (value c) k × (at + head_length k ≤ length buf.old) }
-    ensures { buf.new ≡ written at (head (decimal (value c))) buf.old }
-{
-    if 1 < k {
-        pieces::put_pointed(buf, at, k, 1, c);
-    } else {
-        digits::put_digits(buf, at, k, c);
-    }
+    pieces::put_all(buf, at, b"0.");
+    pieces::put_zeros(buf, at + 2, places - c.digits);
+    c.put(buf, at + len - c.digits);
+    Ok(at + len)
 }
 
 // The first digit, a point and the rest where there is more, and the exponent: 1234E2 -> 1.234E+5
-pub fn power(buf: &mut [u8], negative: bool, c: [u32; 4], k: usize, f: u32) -> Put
-    requires { Sized (value c) k × (f < 16177) }
-    ensures { Puts (signed negative (head (decimal (value c)) ++ tail f)) buf.old result buf.new }
+pub fn power(buf: &mut [u8], negative: bool, c: Coefficient, adjusted: u32) -> Result<usize, NoRoom>
+    requires { adjusted < 16177 }
+    ensures { Puts (signed negative (head (decimal (value c.limbs)) ++ tail adjusted)) buf.old result buf.new }
 {
-    let at = pieces::sign_len(negative);
-    let end = at + head_len(k);
-    let tail = exponent::tail_len(f);
-    let n = end + tail;
-    if buf.len() < n {
-        return Put::NoRoom;
-    }
+    let head = c.head_len();
+    let tail = exponent::tail_len(adjusted);
+    let len = head + tail;
+    let at = start(buf, negative, len)?;
     pieces::put_sign(buf, negative);
-    put_head(buf, at, k, c);
-    exponent::put_tail(buf, end, tail, f);
-    Put::Done(n)
+    c.put_head(buf, at);
+    exponent::put_tail(buf, at + head, tail, adjusted);
+    Ok(at + len)
 }

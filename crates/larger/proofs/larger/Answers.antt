@@ -1,38 +1,30 @@
-use mathlib.Core.Path.{◌∙◌}
-use Rattle.larger.proofs.Choosing.{first_refused, second_refused, by_relation, picks}
+use mathlib.Core.Path.{ap, ◌∙◌}
+use Rattle.std.specs.Prelude.{Some}
+use Rattle.larger.proofs.Choosing.{first_refused, second_refused, by_order}
 use Rattle.larger.proofs.larger.Goals as goal
 
-pub returns-then-x-ne0 : goal.returns-then-x-ne0
-returns-then-x-ne0 c =
-    let x = c.read-x in
-    c.empty_part.ensures ∙ picks _ _ (first_refused _ _ x.result x.ensures c.if-x-ne0.true)
+pub returns-in_default : goal.returns-in_default
+returns-in_default c = c.empty_part.ensures ∙ first_refused c.args.a c.args.b c.in_default.ensures
 
-pub returns-then-y-ne0 : goal.returns-then-y-ne0
-returns-then-y-ne0 c =
-    let y = c.read-y in
-    c.empty_part-then-y-ne0.ensures ∙ picks _ _ (second_refused _ _ y.result y.ensures c.if-y-ne0.true)
+pub returns-in_default-read : goal.returns-in_default-read
+returns-in_default-read c = c.empty_part-in_default-read.ensures ∙ second_refused c.args.a c.args.b c.in_default-read.ensures
 
-pub returns-in-Less : goal.returns-in-Less
-returns-in-Less c =
-    let x = c.read-x in
-    let y = c.read-y in
-    picks _ _ (by_relation _ _ x.result y.result x.ensures y.ensures c.in-Less.is c.if-x-ne0.false c.if-y-ne0.false c.values-relation.ensures)
+pub returns-in-Some-Less : goal.returns-in-Some-Less
+returns-in-Some-Less c =
+    let o = c.in-Some-Less in
+    by_order c.args.a c.args.b c.in-Ok.ensures c.in-Ok-read.ensures c.values.ensures (o.is ∙ ap Some o.field-0-is)
 
-pub returns-in-Equal : goal.returns-in-Equal
-returns-in-Equal c =
-    let x = c.read-x in
-    let y = c.read-y in
-    picks _ _ (by_relation _ _ x.result y.result x.ensures y.ensures c.in-Equal.is c.if-x-ne0.false c.if-y-ne0.false c.values-relation.ensures)
+pub returns-in-Some-Equal : goal.returns-in-Some-Equal
+returns-in-Some-Equal c =
+    let o = c.in-Some-Equal in
+    by_order c.args.a c.args.b c.in-Ok.ensures c.in-Ok-read.ensures c.values.ensures (o.is ∙ ap Some o.field-0-is)
 
-pub returns-in-Greater : goal.returns-in-Greater
-returns-in-Greater c =
-    let x = c.read-x in
-    let y = c.read-y in
-    picks _ _ (by_relation _ _ x.result y.result x.ensures y.ensures c.in-Greater.is c.if-x-ne0.false c.if-y-ne0.false c.values-relation.ensures)
+pub returns-in-Some-Greater : goal.returns-in-Some-Greater
+returns-in-Some-Greater c =
+    let o = c.in-Some-Greater in
+    by_order c.args.a c.args.b c.in-Ok.ensures c.in-Ok-read.ensures c.values.ensures (o.is ∙ ap Some o.field-0-is)
 
-pub returns-in-Unordered : goal.returns-in-Unordered
-returns-in-Unordered c =
-    let x = c.read-x in
-    let y = c.read-y in
-    c.empty_part-in-Unordered.ensures
-    ∙ picks _ _ (by_relation _ _ x.result y.result x.ensures y.ensures c.in-Unordered.is c.if-x-ne0.false c.if-y-ne0.false c.values-relation.ensures)
+pub returns-in-None : goal.returns-in-None
+returns-in-None c =
+    c.empty_part-in-None.ensures
+    ∙ by_order c.args.a c.args.b c.in-Ok.ensures c.in-Ok-read.ensures c.values.ensures c.in-None.is

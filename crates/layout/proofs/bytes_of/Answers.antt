@@ -1,19 +1,15 @@
 use mathlib.Core.Path.{refl, sym, ap, ◌∙◌}
-use Prim.Native.Nat.{ℕ}
-use lib.ListN.{get_or}
-use mir.Syntax.{w32}
-use mir.Val.{Fits}
 use Rattle.meaning.specs.Layout.{bytes_of}
 use Rattle.limbs.proofs.Laws.{value_four}
-use Rattle.layout.proofs.Laws.{four_bytes}
+use Rattle.layout.proofs.Laws.{limb_bytes}
 use borrow.Author.Rules.{rules}
 use Rattle.layout.proofs.bytes_of.Goals as goal
-
-limb : (s : goal.Start) (i : ℕ) → Fits w32 (get_or s.args.w i 0)
-limb s i = search rules
 
 pub returns : goal.returns
 unfolding bytes_of
 returns c =
-    four_bytes _ _ 12 _ (limb c 0) (four_bytes _ _ 8 _ (limb c 1) (four_bytes _ _ 4 _ (limb c 2) (four_bytes _ 0 0 _ (limb c 3) refl)))
+    limb_bytes _ _ _ 12 _ c.to_le_bytes.ensures (search rules)
+    (limb_bytes _ _ _ 8 _ c.to_le_bytes-2.ensures (search rules)
+    (limb_bytes _ _ _ 4 _ c.to_le_bytes-3.ensures (search rules)
+    (limb_bytes _ _ 0 0 _ c.to_le_bytes-4.ensures (search rules) refl)))
     ∙ sym (ap (bytes_of 16) (value_four c.args.w (search rules)))

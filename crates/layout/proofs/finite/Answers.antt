@@ -1,5 +1,5 @@
 use mathlib.Core.Path.{refl}
-use Rattle.layout.specs.Unpacked.{said}
+use Rattle.layout.specs.Fields.{said}
 use Rattle.layout.proofs.finite.Goals as goal
 
 pub returns : goal.returns

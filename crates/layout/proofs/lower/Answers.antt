@@ -1,12 +1,8 @@
-use Prim.Native.Nat.{ℕ}
-use lib.ListN.{get_or}
-use mir.Syntax.{w8}
-use mir.Val.{Fits}
-use Rattle.layout.proofs.Laws.{lower_half}
+use mathlib.Core.Path.{◌∙◌}
+use Rattle.layout.proofs.Laws.{lower_half, le_eight}
 use borrow.Author.Rules.{rules}
 use Rattle.layout.proofs.lower.Goals as goal
 
 pub returns : goal.returns
 returns c =
-    let byte : (i : ℕ) → Fits w8 (get_or c.args.b i 0) = λ i. search rules in
-    lower_half c.args.b (search rules) byte _ c.half.ensures
+    lower_half c.args.b (search rules) (λ i. search rules) _ (c.from_le_bytes.ensures ∙ le_eight _ _ _ _ _ _ _ _)

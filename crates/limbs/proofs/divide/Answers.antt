@@ -10,9 +10,9 @@ returns c =
     (longer _ _ _ _ _ _ _
     (longer _ _ _ _ _ _ _
     (longer _ _ _ _ _ _ _
-    (longer c.args.by 0 0 0 _ _ _ (omega arith) c.divide_limb-s3.ensures.0)
-    c.divide_limb-s2.ensures.0)
-    c.divide_limb-s1.ensures.0)
-    c.divide_limb-s0.ensures.0
+    (longer c.args.by 0 0 0 _ _ _ (omega arith) c.divide_limb-q3.ensures.0)
+    c.divide_limb-q2.ensures.0)
+    c.divide_limb-q1.ensures.0)
+    c.divide_limb-q0.ensures.0
     ∙ sym (value_four c.args.a (search rules)))
-    c.divide_limb-s0.ensures.1
+    c.divide_limb-q0.ensures.1

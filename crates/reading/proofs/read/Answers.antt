@@ -1,27 +1,33 @@
 use mathlib.Core.Path.{◌≡◌, sym, ◌∙◌}
-use mathlib.Core.List.{List}
-use Prim.Native.Nat.{ℕ, ◌<◌}
+use mathlib.Core.Bool.{false, true≢false}
+use Prim.Native.Nat.{ℕ, zero, suc, ◌<◌}
 use native.Mathlib.Omega.{arith}
 use lib.ListN.{length}
-use Rattle.reading.specs.Told.{named}
-use Rattle.reading.proofs.Letters.{read_empty, read_start, start_within}
+use lib.Dec.{eqb}
+use borrow.Author.Tests.{eqb-true}
+use Rattle.reading.proofs.Giving.{gives_refused}
+use Rattle.reading.proofs.Letters.{read_empty, read_start}
 use Rattle.reading.proofs.Where.{sign_is}
 use Rattle.reading.proofs.read.Goals as goal
 
-pub returns-then-s-eq0 : goal.returns-then-s-eq0
-unfolding named
-returns-then-s-eq0 c =
-    let none : length c.args.s.now ≡ 0 = omega (arith, c.if-s-eq0.true) in
-    rw (read_empty _ none) c.refused.ensures
+pub returns-then-is_empty : goal.returns-then-is_empty
+returns-then-is_empty c =
+    let none : length c.args.text.now ≡ 0 = eqb-true _ _ (sym c.is_empty.ensures ∙ c.if-is_empty.true) in
+    rw (read_empty _ none) (gives_refused c.at.ensures.refusal c.at.ensures.place)
 
-pub after_sign-requires : goal.after_sign-requires
-after_sign-requires c =
-    let text : List ℕ = c.args.s.now in
-    let some : 0 < length text = omega (arith, c.if-s-eq0.false) in
-    let e = c.start_of.ensures in (start_within text some _ e, sign_is text some ∙ sym e, some)
+some : (n : ℕ) → eqb n 0 ≡ false → 0 < n
+some zero e = absurd (true≢false e)
+some (suc n) e = omega arith
+
+pub of-requires-clause-some : goal.of-requires-clause-some
+of-requires-clause-some c = some _ (sym c.is_empty.ensures ∙ c.if-is_empty.false)
+
+pub of-requires-clause-signed : goal.of-requires-clause-signed
+of-requires-clause-signed c =
+    sign_is _ (some _ (sym c.is_empty.ensures ∙ c.if-is_empty.false)) ∙ sym c.start_of.ensures
 
 pub returns : goal.returns
 returns c =
-    let text : List ℕ = c.args.s.now in
-    let some : 0 < length text = omega (arith, c.if-s-eq0.false) in
-    rw (read_start text some _ c.start_of.ensures) c.after_sign.ensures
+    let one = some _ (sym c.is_empty.ensures ∙ c.if-is_empty.false) in
+    let e = c.of.ensures in
+    rw (read_start _ one _ c.start_of.ensures) (rw (e.text, e.negative, e.start) at c.after_sign.ensures)

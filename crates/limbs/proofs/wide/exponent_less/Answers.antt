@@ -1,12 +1,8 @@
-use Rattle.meaning.specs.Refusals.{number_of}
 use Rattle.limbs.proofs.Shifts.{refused_wrong, lowered_written}
 use Rattle.limbs.proofs.wide.exponent_less.Goals as goal
 
-pub returns-then-e : goal.returns-then-e
-returns-then-e c =
-    lowered_written _ c.written-e.result _ _ c.written-e.ensures c.if-e.true c.lowered.ensures
+pub returns-in-Some : goal.returns-in-Some
+returns-in-Some c = lowered_written _ c.in-Some.e _ _ c.in-Some.ensures c.lowered.ensures
 
-pub returns : goal.returns
-unfolding number_of
-returns c =
-    refused_wrong _ c.written-e.result _ _ c.written-e.ensures c.if-e.false c.refused.ensures
+pub returns-in-None : goal.returns-in-None
+returns-in-None c = refused_wrong _ _ c.in-None.ensures

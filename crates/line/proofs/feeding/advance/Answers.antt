@@ -1,28 +1,21 @@
-use native.Mathlib.Omega.{arith}
-use Rattle.line.specs.Wanted.{record_for}
-use Rattle.line.proofs.Chunks.{to_end, to_lf, room-left}
+use Rattle.std.proofs.Common.{◌∙◌, ◌-◌, drop, length, sym, arith, length-drop, length-take-le}
+use Rattle.line.proofs.Chunks.{to_end, to_lf, wrote_fits}
 use Rattle.line.proofs.feeding.advance.Goals as goal
 
-pub returns-then-to-chunk : goal.returns-then-to-chunk
-returns-then-to-chunk c =
-    let n = c.next_lf-to.ensures in
-    record {
-      feeds = to_end _ _ c.args.fed n (omega (arith, c.requires.2)) c.gather-held.ensures;
-      goes_on = omega (arith, c.requires.1, c.if-to-chunk.true);
-    }
+pub overflow_add-result-in-Some-2 : goal.overflow_add-result-in-Some-2
+overflow_add-result-in-Some-2 g c =
+    let out = c.args.out.now in
+    let count = c.args.fed.count in
+    let room = length-take-le (length out - count) (drop count out) (omega (arith, length-drop count out)) in
+    omega (arith, wrote_fits _ _ c.end-wrote.ensures.wrote)
 
-pub returns : goal.returns
-returns c =
-    let n = c.next_lf-to.ensures in
-    let other = c.if-to-chunk.false in
-    record {
-      feeds = to_lf _ _ c.args.fed n (omega (arith, c.requires.2)) (omega (arith, n.within)) c.ended-wrote.ensures;
-      goes_on = omega (arith, n.after);
-    }
+pub returns-in-Some-clause-feeds : goal.returns-in-Some-clause-feeds
+returns-in-Some-clause-feeds g c =
+    let lf = c.next_lf.ensures in
+    to_lf _ c.args.chunk.now c.args.fed (omega (arith, c.requires.in_chunk)) (omega (arith, c.requires.room))
+    (sym lf.first ∙ c.in-Some.is) c.in-Some.ensures.within c.end-wrote.ensures.empty c.end-wrote.ensures.wrote
 
-pub overflow_add-result-2 : goal.overflow_add-result-2
-overflow_add-result-2 c =
-    let n = c.next_lf-to.ensures in
-    let other = c.if-to-chunk.false in
-    let f = record_for c.args.wanted in
-    omega (arith, room-left f c.args.chunk.now (to_lf f c.args.chunk.now c.args.fed n {line' = c.args.line.now} (omega (arith, c.requires.2)) (omega (arith, n.within)) c.ended-wrote.ensures))
+pub returns-in-None-clause-feeds : goal.returns-in-None-clause-feeds
+returns-in-None-clause-feeds g c =
+    to_end _ c.args.chunk.now c.args.fed (omega (arith, c.requires.in_chunk)) (omega (arith, c.requires.room))
+    (sym c.next_lf.ensures.first ∙ c.in-None.is) c.extend.ensures

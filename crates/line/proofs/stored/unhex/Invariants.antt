@@ -1,11 +1,7 @@
-use mathlib.Core.Path.{◌≡◌}
-use Prim.Native.Nat.{◌≤◌, ◌-◌}
-use lib.ListN.{length, take}
-use Rattle.meaning.specs.Stream.{unhex}
+use Rattle.std.proofs.Common.{◌≡◌, ◌*◌, length, take, drop}
+use Rattle.meaning.specs.Stream.{all_hex, unhex}
 use Rattle.line.proofs.stored.unhex.Given as goal
 
 abbrev pub invariant-loop-i : goal.invariant-loop-i
-invariant-loop-i l = (l.i ≤ 16) × (length l.bytes ≡ 16) × (take l.i l.bytes ≡ take l.i (unhex l.s))
-
-abbrev pub decreases-loop-i : goal.decreases-loop-i
-decreases-loop-i l = 16 - l.i
+invariant-loop-i l =
+    (length l.bytes ≡ 16) × (take l.i l.bytes ≡ take l.i (unhex l.text)) × (all_hex (drop (2 * l.i) l.text) ≡ all_hex l.text)

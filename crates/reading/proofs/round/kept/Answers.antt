@@ -1,51 +1,64 @@
-use mathlib.Core.Path.{◌≡◌, ◌∙◌}
+use mathlib.Core.Path.{◌≡◌, refl, ◌∙◌}
 use mathlib.Core.Bool.{true}
-use Prim.Native.Nat.{◌+◌, ◌*◌, ◌^◌, ◌<◌}
+use Prim.Native.Nat.{ℕ, ◌+◌, ◌*◌, ◌^◌, ◌≤◌, ◌<◌}
 use native.Mathlib.Omega.{arith}
 use borrow.Author.Tests.{lt-ltb}
-use Rattle.meaning.specs.Reading.{all_digits}
-use Rattle.meaning.proofs.Numbers.{number_lt, pow_pos}
-use Rattle.limbs.specs.Value.{value}
-use Rattle.limbs.specs.Count.{Counts}
-use Rattle.reading.specs.Run.{run}
-use Rattle.reading.specs.Told.{named}
+use Rattle.meaning.specs.Reading.{all_digits, number}
+use Rattle.meaning.proofs.Numbers.{number_lt}
+use Rattle.reading.specs.declared.scan.Scan.{Scan}
+use Rattle.reading.specs.Run.{run_of, Walked, Leads}
+use Rattle.reading.proofs.Giving.{gives_refused, gives_finite}
 use Rattle.reading.proofs.Leading.{padded_counts}
 use Rattle.reading.proofs.Points.{walked_digits}
 use Rattle.reading.proofs.Steps.{step11_point, step11_digits, padded_lt}
 use Rattle.reading.proofs.round.kept.Goals as goal
 
 pub returns-then-second-to : goal.returns-then-second-to
-unfolding named
-returns-then-second-to c = λ _.
-    rw (step11_point _ _ _ _ _ (c.requires.walked.0.second c.args.to c.requires.walked.1 c.requires.walked.2 ∙ lt-ltb _ _ c.if-second-to.true), c.requires.walked.3.second (omega (arith, c.requires.walked.2, c.if-second-to.true)))
-    c.refused.ensures
+returns-then-second-to c =
+    let w = c.requires.walkable in
+    let o = c.requires.ordered in
+    rw (step11_point _ _ _ _ _ (w.walked.second c.args.to o.0 o.1 ∙ lt-ltb _ _ c.if-second-to.true), w.placed.second (omega (arith, o.1, c.if-second-to.true)))
+    (gives_refused c.at.ensures.refusal c.at.ensures.place)
 
-pub push_digits-c-requires : goal.push_digits-c-requires
-push_digits-c-requires c =
-    let all_digits : all_digits (run c.args.d.found.point c.args.first c.args.to c.args.s.now) ≡ true =
-    walked_digits c.args.s.now c.args.first c.args.to c.args.d c.requires.walked.0 c.requires.walked.1 c.requires.walked.2 c.if-second-to.false in
-    record {
-      row = (c.requires.walked.1, omega (arith, c.requires.walked.2, c.requires.walked.0.within), all_digits);
-      fits = (omega (arith, c.requires.leads.0.count, c.requires.leads.1), pow_pos _);
-    }
+-- the bytes up to `to` are digits, and with `pad` zeros behind them they make a number of the format
+module _ (d : Scan) (first to digits pad : ℕ) (w : Walked d.text.now first d.stop d.found) (h : first ≤ to) (k : to ≤ d.stop) (s : to ≤ d.found.second) (l : Leads (run_of d first to) digits) (p : digits + pad ≤ 34) where
+  all : all_digits (run_of d first to) ≡ true
+  all = walked_digits d.text.now first to d.stop d.found w h k s
+
+  bound : number 0 (run_of d first to) * 10 ^ pad < 10 ^ 34
+  bound = padded_lt _ _ _ (number_lt _ all) (rw (← l.count) at p)
+
+pub number-c-requires-clause-within : goal.number-c-requires-clause-within
+number-c-requires-clause-within c =
+    let o = c.requires.ordered in (o.0, omega (arith, o.1, c.requires.walkable.walked.within))
+
+pub number-c-requires-clause-digits : goal.number-c-requires-clause-digits
+number-c-requires-clause-digits c =
+    let q = c.requires in
+    all c.args.scan.now _ _ _ _ q.walkable.walked q.ordered.0 q.ordered.1 c.if-second-to.false q.leads q.few
+
+pub number-c-requires-clause-few : goal.number-c-requires-clause-few
+number-c-requires-clause-few c = omega (arith, c.requires.leads.count, c.requires.few)
 
 pub padded-requires : goal.padded-requires
 padded-requires c =
-    let all_digits : all_digits (run c.args.d.found.point c.args.first c.args.to c.args.s.now) ≡ true =
-    walked_digits c.args.s.now c.args.first c.args.to c.args.d c.requires.walked.0 c.requires.walked.1 c.requires.walked.2 c.if-second-to.false in
-    let bound : value c.push_digits-c.result * 10 ^ c.args.pad < 10 ^ 34 =
-    rw c.push_digits-c.ensures (padded_lt _ _ _ (number_lt _ all_digits) (rw (← c.requires.leads.0.count) at c.requires.leads.1)) in
-    (omega (arith, c.requires.leads.1), bound)
+    let q = c.requires in
+    (omega (arith, q.few), rw c.number-c.ensures (bound c.args.scan.now _ _ _ _ q.walkable.walked q.ordered.0 q.ordered.1 c.if-second-to.false q.leads q.few))
+
+pub finite-requires-clause-coefficient : goal.finite-requires-clause-coefficient
+finite-requires-clause-coefficient c =
+    let q = c.requires in
+    rw (c.padded.ensures, c.number-c.ensures) (bound c.args.scan.now _ _ _ _ q.walkable.walked q.ordered.0 q.ordered.1 c.if-second-to.false q.leads q.few)
+
+pub finite-requires-clause-digits : goal.finite-requires-clause-digits
+finite-requires-clause-digits c =
+    let q = c.requires in
+    rw (c.padded.ensures, c.number-c.ensures)
+    (padded_counts _ c.args.digits c.args.p.above q.leads (all c.args.scan.now _ _ _ _ q.walkable.walked q.ordered.0 q.ordered.1 c.if-second-to.false q.leads q.few))
 
 pub returns : goal.returns
 returns c =
-    let all_digits : all_digits (run c.args.d.found.point c.args.first c.args.to c.args.s.now) ≡ true =
-    walked_digits c.args.s.now c.args.first c.args.to c.args.d c.requires.walked.0 c.requires.walked.1 c.requires.walked.2 c.if-second-to.false in
-    let bound : value c.push_digits-c.result * 10 ^ c.args.pad < 10 ^ 34 =
-    rw c.push_digits-c.ensures (padded_lt _ _ _ (number_lt _ all_digits) (rw (← c.requires.leads.0.count) at c.requires.leads.1)) in
-    let counts : Counts (value c.push_digits-c.result * 10 ^ c.args.pad) (c.args.digits + c.args.pad) =
-    rw c.push_digits-c.ensures (padded_counts _ c.args.digits c.args.pad c.requires.leads.0 all_digits) in
-    λ f.
-    let e = c.padded.ensures in
-    rw (step11_digits _ c.args.negative c.args.field c.args.pad _ all_digits, ← c.push_digits-c.ensures, ← e)
-    (c.finite.ensures f (rw e bound) (rw e counts))
+    let d = c.args.scan.now in
+    let q = c.requires in
+    rw (step11_digits d.text.now d.negative c.args.p.field c.args.p.above _ (all d _ _ _ _ q.walkable.walked q.ordered.0 q.ordered.1 c.if-second-to.false q.leads q.few))
+    (gives_finite c.finite.ensures refl (c.padded.ensures ∙ rw c.number-c.ensures))

@@ -1,18 +1,19 @@
-use mathlib.Core.Path.{ap, ◌∙◌}
+use mathlib.Core.Path.{◌∙◌}
 use native.Mathlib.Omega.{arith}
-use Rattle.meaning.specs.Reading.{number}
-use Rattle.meaning.proofs.Numbers.{pow_pos}
-use Rattle.reading.proofs.Points.{stop_low, stop_within, short-digits, short-value, short-length}
+use Rattle.reading.proofs.Points.{stop_low, stop_within}
+use Rattle.reading.proofs.Whole.{whole-digits, whole-value, whole-length}
 use Rattle.reading.proofs.round.whole.Goals as goal
 
-pub returns-then-s-start-le-SHORT : goal.returns-then-s-start-le-SHORT
-returns-then-s-start-le-SHORT c =
-    c.of_u64.ensures ∙ c.requires.0.value (omega arith) ∙ ap (number 0) (short-value _ _ _ c.requires.0 c.requires.1 c.requires.2 _ (stop_low _ _ _ c.requires.0 c.requires.1) (omega arith))
+pub returns-then-scan-le-SHORT : goal.returns-then-scan-le-SHORT
+returns-then-scan-le-SHORT c =
+    let d = c.args.scan.now in c.of_u64.ensures ∙ whole-value d c.requires.one (omega (arith, d.within, c.if-scan-le-SHORT.true))
 
-pub push_digits-requires : goal.push_digits-requires
-push_digits-requires c =
-    let h = stop_low _ _ _ c.requires.0 c.requires.1 in
-    record {
-      row = (h, stop_within _ _ _ c.requires.0 c.requires.1, short-digits _ _ _ c.requires.0 c.requires.1 c.requires.2 _ h (omega arith));
-      fits = (omega (arith, short-length _ _ _ c.requires.0 c.requires.1 c.requires.2, c.requires.3), pow_pos _);
-    }
+pub number-requires-clause-within : goal.number-requires-clause-within
+number-requires-clause-within c =
+    let d = c.args.scan.now in (stop_low _ _ _ _ d.scanned d.within, stop_within _ _ _ _ d.scanned d.within)
+
+pub number-requires-clause-digits : goal.number-requires-clause-digits
+number-requires-clause-digits c = whole-digits c.args.scan.now c.requires.one
+
+pub number-requires-clause-few : goal.number-requires-clause-few
+number-requires-clause-few c = whole-length c.args.scan.now c.requires.one c.requires.few

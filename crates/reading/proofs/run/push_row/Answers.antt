@@ -1,18 +1,12 @@
-use mathlib.Core.Path.{refl, sym, ◌∙◌}
-use Prim.Native.Nat.{◌+◌, ◌≤◌}
-use native.Mathlib.Omega.{arith}
-use Rattle.reading.proofs.Rows.{row_digits, row_pushed, row_rest, row_same}
+use mathlib.Core.Path.{◌∙◌}
+use Rattle.reading.proofs.Rows.{row_front, row-behind-front, row-join}
 use Rattle.reading.proofs.run.push_row.Goals as goal
 
-pub eight-requires : goal.eight-requires
-eight-requires c =
-    let l = c.loop-i in
-    let r = l.invariant.1 in (omega (arith, r.within, c.loop-i-test.true), row_digits _ l.i (l.i + 8) _ _ 8 r refl (omega (arith, c.loop-i-test.true)))
+pub push_few-longer-requires-clause-row : goal.push_few-longer-requires-clause-row
+push_few-longer-requires-clause-row c = rw c.in-Some.ensures.cases.0 (row_front _ _ c.loop-eight.invariant.0)
 
-pub loop-i-preserved : goal.loop-i-preserved
-loop-i-preserved c =
-    let l = c.loop-i in
-    let r = l.invariant.1 in
-    let h : l.i + 8 ≤ c.args.to = omega (arith, c.loop-i-test.true) in
-    let e = row_pushed _ _ (l.i + 8) _ _ 8 r refl h _ refl c.eight.ensures c.multiply-m.ensures in
-    (omega arith, rw e (row_rest _ _ (l.i + 8) _ _ 8 r refl h), rw e (sym (row_same _ _ (l.i + 8) _ _ 8 r refl h) ∙ l.invariant.2))
+pub loop-eight-preserved : goal.loop-eight-preserved
+loop-eight-preserved c =
+    let r = c.loop-eight.invariant.0 in
+    rw (c.push_few-longer.ensures, c.in-Some.ensures.cases.0, c.in-Some.ensures.cases.1)
+    (row-behind-front _ _ r, row-join _ _ r ∙ c.loop-eight.invariant.1)

@@ -1,14 +1,13 @@
 use mathlib.Core.Path.{◌≡◌}
-use Prim.Native.Nat.{◌-◌, ◌≤◌}
-use lib.Seq.{slice}
+use lib.ListN.{length}
 use Rattle.meaning.specs.Reading.{number}
 use Rattle.limbs.specs.Value.{value}
 use Rattle.reading.specs.Run.{Row}
 use Rattle.reading.proofs.run.push_row.Given as goal
 
-abbrev pub invariant-loop-i : goal.invariant-loop-i
-invariant-loop-i l =
-    (l.from ≤ l.i) × Row l.s l.i l.to (value l.acc) × (number (value l.acc) (slice l.i l.to l.s) ≡ number (value l.initial.acc) (slice l.from l.to l.s))
+abbrev pub invariant-loop-eight : goal.invariant-loop-eight
+invariant-loop-eight l =
+    Row l.rest (value l.acc) × (number (value l.acc) l.rest ≡ number (value l.fn.c) l.fn.digits)
 
-abbrev pub decreases-loop-i : goal.decreases-loop-i
-decreases-loop-i l = l.to - l.i
+abbrev pub decreases-loop-eight : goal.decreases-loop-eight
+decreases-loop-eight l = length l.rest

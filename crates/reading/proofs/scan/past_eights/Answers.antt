@@ -1,16 +1,12 @@
 use mathlib.Core.Path.{sym, ◌∙◌}
-use Prim.Native.Nat.{◌+◌, ◌≤◌}
-use native.Mathlib.Omega.{arith}
-use lib.ListN.{length}
-use Rattle.reading.proofs.Rows.{row_none, row_on}
+use Rattle.reading.proofs.Rows.{passed_none, passed-more}
 use Rattle.reading.proofs.scan.past_eights.Goals as goal
+use Rattle.std.proofs.lemmas.List.{take_rest}
 
-pub loop-i-init : goal.loop-i-init
-loop-i-init c = (omega arith, c.requires, row_none c.args.s.now c.args.from)
+pub loop-eight-init : goal.loop-eight-init
+loop-eight-init c = passed_none _ c.args.from _ c.requires (take_rest c.args.text.now c.args.from)
 
-pub loop-i-preserved : goal.loop-i-preserved
-loop-i-preserved c =
-    let l = c.loop-i in
-    let h : l.i + 8 ≤ length c.args.s.now = omega arith in
-    let d = sym c.eight_digits.ensures ∙ c.if-not-eight_digits.false in
-    (omega arith, h, row_on c.args.s.now c.args.from l.i (l.i + 8) l.invariant.0 (omega arith) h l.invariant.2 d)
+pub loop-eight-preserved : goal.loop-eight-preserved
+loop-eight-preserved c =
+    let e = c.in-Some.ensures.cases in
+    passed-more _ _ _ _ _ c.loop-eight.invariant e.0 e.1 e.2 (sym c.are_digits.ensures ∙ c.if-not-are_digits.false)

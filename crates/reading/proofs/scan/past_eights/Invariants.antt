@@ -1,13 +1,9 @@
-use mathlib.Core.Path.{◌≡◌}
-use mathlib.Core.Bool.{true}
-use Prim.Native.Nat.{◌≤◌, ◌-◌}
 use lib.ListN.{length}
-use lib.Seq.{slice}
-use Rattle.meaning.specs.Reading.{all_digits}
+use Rattle.reading.proofs.Rows.{Passed}
 use Rattle.reading.proofs.scan.past_eights.Given as goal
 
-abbrev pub invariant-loop-i : goal.invariant-loop-i
-invariant-loop-i l = (l.from ≤ l.i) × (l.i ≤ length l.s) × (all_digits (slice l.from l.i l.s) ≡ true)
+abbrev pub invariant-loop-eight : goal.invariant-loop-eight
+invariant-loop-eight l = Passed l.text l.from l.rest
 
-abbrev pub decreases-loop-i : goal.decreases-loop-i
-decreases-loop-i l = length l.s - l.i
+abbrev pub decreases-loop-eight : goal.decreases-loop-eight
+decreases-loop-eight l = length l.rest

@@ -1,7 +1,5 @@
 use mathlib.Core.Path.{refl, ◌∙◌}
 use native.Mathlib.Omega.{arith}
-use lib.ListN.{length-set}
-use borrow.Author.Rules.{rules}
 use Rattle.writing.proofs.Low.{turn, tenth, done}
 use Rattle.writing.proofs.digits.put_low.Goals as goal
 
@@ -9,9 +7,13 @@ pub digits-preserved : goal.digits-preserved
 digits-preserved c =
     let l = c.digits in
     let h = c.digits-test.true in
-    (search rules, search rules, simp length-set l.invariant.2, tenth l.rest h ∙ l.invariant.3, turn _ l.j l.rest _ _ l.buf _ h (omega arith) refl (omega arith) l.invariant.4)
+    record {
+      small = omega arith;
+      above = tenth l.rest h ∙ l.invariant.above;
+      gives = turn _ l.j l.rest _ _ l.buf _ h (omega arith) refl (omega arith) l.invariant.gives;
+    }
 
-pub returns : goal.returns
-returns c =
+pub returns-clause-buf_after : goal.returns-clause-buf_after
+returns-clause-buf_after c =
     let l = c.digits in
-    done _ l.j _ l.rest _ l.buf _ (omega arith) l.invariant.3 l.invariant.4
+    done _ l.j l.rest l.buf _ (omega arith) l.invariant.gives

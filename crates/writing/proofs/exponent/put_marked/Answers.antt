@@ -9,7 +9,7 @@ use Rattle.writing.proofs.exponent.put_marked.Goals as goal
 
 pub returns : goal.returns
 returns c =
-    follow c.args.at (c.args.at + 2) (69 ∷ c.args.mark ∷ []) (decimal c.args.v) _ c.put_two.ensures
-    (c.put_low.ensures.1 ∙ rw (low_all _ _ c.requires.0))
+    follow c.args.at (c.args.at + 2) (69 ∷ c.args.mark ∷ []) (decimal c.args.number) _ c.put_two.ensures
+    (c.put_low.ensures.buf_after ∙ rw (low_all _ _ c.requires.count))
     refl
-    (omega (arith, c.requires))
+    (omega arith)

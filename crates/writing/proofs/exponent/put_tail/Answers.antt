@@ -1,19 +1,18 @@
 use native.Mathlib.Omega.{arith}
-use borrow.Author.Rules.{rules}
 use Rattle.writing.proofs.Texts.{tail-above, tail-below, tail_none, tailed_above, tailed_below}
 use Rattle.writing.proofs.exponent.put_tail.Goals as goal
 
-pub put_marked-requires : goal.put_marked-requires
-put_marked-requires c = (tailed_above _ c.requires.0 c.if-f-gt6177.true, search rules)
+pub put_marked-requires-clause-count : goal.put_marked-requires-clause-count
+put_marked-requires-clause-count c = tailed_above _ c.requires.len c.if-adjusted-gt6177.true
 
-pub put_marked-requires-then-f-lt6177 : goal.put_marked-requires-then-f-lt6177
-put_marked-requires-then-f-lt6177 c = (tailed_below _ c.requires.0 c.if-f-lt6177.true, search rules)
+pub put_marked-requires-then-adjusted-lt6177-clause-count : goal.put_marked-requires-then-adjusted-lt6177-clause-count
+put_marked-requires-then-adjusted-lt6177-clause-count c = tailed_below _ c.requires.len c.if-adjusted-lt6177.true
 
-pub returns-then-f-gt6177 : goal.returns-then-f-gt6177
-returns-then-f-gt6177 c = rw (tail-above _ c.if-f-gt6177.true) c.put_marked.ensures
+pub returns-then-adjusted-gt6177 : goal.returns-then-adjusted-gt6177
+returns-then-adjusted-gt6177 c = rw (tail-above _ c.if-adjusted-gt6177.true) c.put_marked.ensures
 
-pub returns-then-f-lt6177 : goal.returns-then-f-lt6177
-returns-then-f-lt6177 c = rw (tail-below _ c.if-f-lt6177.true) c.put_marked-then-f-lt6177.ensures
+pub returns-then-adjusted-lt6177 : goal.returns-then-adjusted-lt6177
+returns-then-adjusted-lt6177 c = rw (tail-below _ c.if-adjusted-lt6177.true) c.put_marked-then-adjusted-lt6177.ensures
 
-pub returns-else-f-lt6177 : goal.returns-else-f-lt6177
-returns-else-f-lt6177 c = rw (tail_none c.args.f (omega arith)) c.put_two.ensures
+pub returns-else-adjusted-lt6177 : goal.returns-else-adjusted-lt6177
+returns-else-adjusted-lt6177 c = rw (tail_none c.args.adjusted (omega arith)) c.put_all.ensures

@@ -1,10 +1,7 @@
-use Prim.Native.Nat.{◌-◌, ◌≤◌}
-use lib.ListN.{length, take}
-use Rattle.writing.proofs.Written.{Filling}
+use mathlib.Core.Path.{◌≡◌}
+use lib.ListN.{take}
+use Rattle.writing.specs.Written.{written}
 use Rattle.writing.proofs.pieces.put_all.Given as goal
 
 abbrev pub invariant-loop-i : goal.invariant-loop-i
-invariant-loop-i l = (l.i ≤ length l.s) × Filling l.at (take l.i l.s) l.initial.buf l.buf
-
-abbrev pub decreases-loop-i : goal.decreases-loop-i
-decreases-loop-i l = length l.s - l.i
+invariant-loop-i l = l.buf ≡ written l.at (take l.i l.s) l.initial.buf

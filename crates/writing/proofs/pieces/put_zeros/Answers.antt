@@ -1,12 +1,13 @@
+use mathlib.Core.Path.{ap, ◌∙◌}
+use Prim.Native.Nat.{ℕ}
 use native.Mathlib.Omega.{arith}
 use borrow.Author.Rules.{rules}
-use Rattle.writing.proofs.Written.{filling_none, push_same}
+use lib.ListN.{replicate, length-replicate}
+use Rattle.writing.proofs.Written.{written-part}
 use Rattle.writing.proofs.pieces.put_zeros.Goals as goal
 
-pub loop-i-init : goal.loop-i-init
-loop-i-init c = (search rules, filling_none _ _)
-
-pub loop-i-preserved : goal.loop-i-preserved
-loop-i-preserved c =
-    let l = c.loop-i in
-    (search rules, push_same 48 _ l.i l.invariant.1 (omega arith))
+pub returns : goal.returns
+returns c =
+    written-part c.args.at _ (replicate c.args.count 48) c.args.buf.now
+    (c.fill.ensures.after (λ _ e. e) ∙ ap (λ (n : ℕ). replicate n 48) (search rules))
+    (rw length-replicate (omega arith))
