@@ -10,8 +10,10 @@ use Rattle.std.specs.contracts.cmp.Ordering.{the_type}
 use denote.Enum.Declared.{tag_of}
 use Rattle.std.proofs.Common.{to_z, of_z, w32, ◌+ℤ◌}
 use Rattle.comparing.specs.Told as comparing
-use Rattle.meaning.specs.Order.{order_given, refusal_given}
+use Rattle.meaning.specs.Order.{Relation, order_given, refusal_given}
+use Rattle.meaning.specs.Order.Relation.{less, equal, greater, unordered}
 use Rattle.meaning.specs.Refusals.{number_of}
+use Rattle.meaning.specs.Refusals.Refusal.{malformed_bytes, not_ordered}
 use Rattle.meaning.specs.Reading.{Located, read_at}
 use Rattle.meaning.specs.Layout.{bytes_of, encode}
 use Rattle.layout.specs.Unpacked.{meant}
@@ -19,7 +21,7 @@ use Rattle.layout.specs.declared.Unpacked.{Unpacked}
 use Rattle.meaning.specs.Answers.{number_given, bytes_given}
 use Rattle.reading.specs.declared.answer.Refused.{Refused}
 use Rattle.reading.specs.Told.{named, Gives}
-use Rattle.decimal128.specs.Operations.{parsed, ReadGives, ParseGives, CompareGives, stored_relation}
+use Rattle.decimal128.specs.Operations.{parsed, compared_as, order_beside, ReadGives, ParseGives, CompareGives, stored_relation}
 use Rattle.decimal128.specs.declared.MalformedBytes.{MalformedBytes}
 
 -- ---- what C is told of a comparison
@@ -32,9 +34,17 @@ order_given_c a b Less h = record { is = rw (← h) refl; at = rw (← h) refl }
 order_given_c a b Equal h = record { is = rw (← h) refl; at = rw (← h) refl }
 order_given_c a b Greater h = record { is = rw (← h) refl; at = rw (← h) refl }
 
-pub none_given_c : (a b : List ℕ) → comparing.told None ≡ stored_relation a b → CompareGives a b 11 (pos 0)
-unfolding order_given refusal_given number_of
-none_given_c a b h = record { is = rw (← h) refl; at = rw (← h) refl }
+pub none_given_c : (a b : List ℕ) {n : ℕ} → comparing.told None ≡ stored_relation a b → n ≡ number_of not_ordered → CompareGives a b n (pos 0)
+unfolding order_given refusal_given
+none_given_c a b h e = record { is = rw (← h) e; at = rw (← h) refl }
+
+-- the order of an answer is that of the relation, in Rattle as for C
+pub order_beside_lem : (r : Relation) → order_beside (compared_as r) ≡ order_given r
+unfolding order_given
+order_beside_lem less = refl
+order_beside_lem equal = refl
+order_beside_lem greater = refl
+order_beside_lem unordered = refl
 
 -- ---- what C is told of a reading, and of a slice that is no value
 
@@ -56,6 +66,5 @@ refused_read_c s e g f =
       at = ap (λ (l : Located). l.place) g.tells;
     }
 
-pub malformed_c : (s : List ℕ) {e : MalformedBytes} → Err e ≡ parsed s → ParseGives s 8 (replicate 16 0)
-unfolding number_of
-malformed_c s e = record { is = rw (← e) refl; bytes = rw (← e) refl }
+pub malformed_c : (s : List ℕ) {e : MalformedBytes} {n : ℕ} → Err e ≡ parsed s → n ≡ number_of malformed_bytes → ParseGives s n (replicate 16 0)
+malformed_c s e f = record { is = rw (← e) f; bytes = rw (← e) refl }

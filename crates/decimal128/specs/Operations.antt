@@ -2,6 +2,7 @@
 use Rattle.std.specs.Prelude.{ℕ, ◌≡◌, List, length, replicate, ℤ, ◌==◌, if◌then◌else◌, Result, Ok, Err}
 use Rattle.std.specs.declared.cmp.Ordering.{Ordering}
 use Rattle.std.specs.declared.cmp.Ordering.TheVariants.{Less, Equal, Greater}
+use Rattle.std.proofs.Math.IntN.ℤ.{pos, negsuc}
 use Rattle.meaning.specs.Refusals.{number_of}
 use Rattle.meaning.specs.Refusals.Refusal.{malformed_bytes, no_room}
 use Rattle.meaning.specs.Decimal.{Decimal}
@@ -72,6 +73,13 @@ stored_relation a b = relation (decode (stored a)) (decode (stored b))
 
 abbrev pub CompareAllows : List ℕ → List ℕ → Result Ordering NotOrdered → Type 0
 CompareAllows a b r = r ≡ compared_as (stored_relation a b)
+
+-- the order as a number; beside a refusal it is 0
+abbrev pub order_beside : Result Ordering NotOrdered → ℤ
+order_beside (Ok Less) = negsuc 0
+order_beside (Ok Equal) = pos 0
+order_beside (Ok Greater) = pos 1
+order_beside (Err e) = pos 0
 
 -- ---- the paper's number and values of each case of a result
 

@@ -5,19 +5,12 @@ ghost use Rattle.meaning.specs.Writing.{write_text, debug_text};
 ghost use Rattle.decimal128.specs.Operations.{PutGives, ReadGives, ParseGives, CompareGives, put_number, put_length};
 ghost use Rattle.std.specs.Prelude.{◌≡◌};
 
-use crate::{Decimal128, MalformedBytes};
+use crate::{Decimal128, NO_ORDER, NotOrdered};
 use writing::NoRoom;
 
 const ACCEPTED: u32 = 0;
 
-const MALFORMED_BYTES: u32 = 8;
-
 const NO_ROOM: u32 = 9;
-
-const NOT_ORDERED: u32 = 11;
-
-// The order that stands beside NotOrdered.
-const NO_ORDER: i32 = 0;
 
 // The number, and the length in its place.
 fn give_length(put: Result<usize, NoRoom>, len: &mut usize) -> u32
@@ -79,9 +72,9 @@ pub fn decimal128_parse(bytes: &[u8], out: &mut [u8; 16]) -> u32
             *out = stored;
             ACCEPTED
         }
-        Err(MalformedBytes) => {
+        Err(refusal) => {
             *out = [0; 16];
-            MALFORMED_BYTES
+            refusal.number()
         }
     }
 }
@@ -91,7 +84,7 @@ pub fn decimal128_compare(a: &[u8; 16], b: &[u8; 16], order: &mut i32) -> u32
 {
     let Some(ordering) = comparing::compare(a, b) else {
         *order = NO_ORDER;
-        return NOT_ORDERED;
+        return NotOrdered.number();
     };
     *order = ordering as i32;
     ACCEPTED

@@ -3,7 +3,7 @@
 #![tactic(auto)]
 
 ghost use Rattle.std.specs.Prelude.{◌≡◌};
-ghost use Rattle.decimal128.specs.Operations.{FromBytesAllows, BytesAllows, ParseAllows, ReadAllows, WriteAllows, DebugAllows, RecordAllows, CompareAllows, given};
+ghost use Rattle.decimal128.specs.Operations.{FromBytesAllows, BytesAllows, ParseAllows, ReadAllows, WriteAllows, DebugAllows, RecordAllows, CompareAllows, given, order_beside};
 
 use reading::answer::Refused;
 use std::cmp::Ordering;
@@ -27,6 +27,38 @@ pub struct MalformedBytes;
 // One of two values is a NaN.
 #[derive(Clone, Copy, Debug, PartialEq, Eq)]
 pub struct NotOrdered;
+
+// Document 01, 'Numbers of the refusals', and ticket 3 of document 02.
+const MALFORMED_BYTES: u32 = 8;
+
+const NOT_ORDERED: u32 = 11;
+
+// The order that stands beside NotOrdered.
+const NO_ORDER: i32 = 0;
+
+impl MalformedBytes {
+    ghost use Rattle.meaning.specs.Refusals.{number_of};
+    ghost use Rattle.meaning.specs.Refusals.Refusal.{malformed_bytes};
+
+    #[tactic(auto, unfolding(meaning::specs::Refusals::number_of))]
+    pub fn number(self) -> u32
+        ensures { result ≡ number_of malformed_bytes }
+    {
+        MALFORMED_BYTES
+    }
+}
+
+impl NotOrdered {
+    ghost use Rattle.meaning.specs.Refusals.{number_of};
+    ghost use Rattle.meaning.specs.Refusals.Refusal.{not_ordered};
+
+    #[tactic(auto, unfolding(meaning::specs::Refusals::number_of))]
+    pub fn number(self) -> u32
+        ensures { result ≡ number_of not_ordered }
+    {
+        NOT_ORDERED
+    }
+}
 
 impl Decimal128 {
     pub fn from_bytes(bytes: [u8; 16]) -> Self
@@ -89,6 +121,18 @@ pub fn parse(bytes: &[u8]) -> Result<Decimal128, MalformedBytes>
     match bytes.try_into() {
         Ok(bytes) => Ok(Decimal128::from_bytes(bytes)),
         Err(_) => Err(MalformedBytes),
+    }
+}
+
+// The order of an answer as a number, -1, 0 or 1: beside a refusal it is 0.
+pub fn order_given(answer: &Result<Ordering, NotOrdered>) -> i32
+    ensures { result ≡ order_beside answer.now }
+{
+    match answer {
+        Ok(Ordering::Less) => -1,
+        Ok(Ordering::Equal) => 0,
+        Ok(Ordering::Greater) => 1,
+        Err(NotOrdered) => NO_ORDER,
     }
 }
 

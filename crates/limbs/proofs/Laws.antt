@@ -29,6 +29,13 @@ four (a ∷ b ∷ c ∷ d ∷ e ∷ f) l = absurd (omega arith)
 pub value_four : (a : List ℕ) → length a ≡ 4 → value a ≡ value (get_or a 0 0 ∷ get_or a 1 0 ∷ get_or a 2 0 ∷ get_or a 3 0 ∷ [])
 value_four a l = ap value (four a l)
 
+-- B is the bound of what stands above
+fits_step : (B x n : ℕ) → Fits w32 x → n < B → x + 2 ^ 32 * n < 2 ^ 32 * B
+fits_step B x n f h = omega (arith, mul-le-mul_left (2 ^ 32) h)
+
+pub value_fits : {x₀ x₁ x₂ x₃ : ℕ} → Fits w32 x₀ → Fits w32 x₁ → Fits w32 x₂ → Fits w32 x₃ → value (x₀ ∷ x₁ ∷ x₂ ∷ x₃ ∷ []) < 2 ^ 128
+value_fits f₀ f₁ f₂ f₃ = fits_step _ _ _ f₀ (fits_step _ _ _ f₁ (fits_step _ _ _ f₂ (fits_step 1 _ 0 f₃ (omega arith))))
+
 -- ---- halves
 
 pub of_halves : (n : ℕ) → n % 2 ^ 64 + 2 ^ 64 * (n / 2 ^ 64) ≡ n

@@ -12,26 +12,27 @@ use std::io::{Read, Write};
 // How many bytes are read at once, and at most written.
 const BLOCK: usize = 65536;
 
-// The record of an answer.
-fn record_of(answer: Result<Ordering, NotOrdered>) -> &'static [u8]
-    ensures { length result.now ≤ 5 }
+// A record behind what stands in the output: how much stands there then. It is an array, whose length is known where it is copied.
+fn put<const N: usize>(out: &mut [u8], at: usize, record: &[u8; N]) -> usize
+    requires { at + N ≤ length out.old }
+    ensures { result ≡ at + N }
 {
-    match answer {
-        Ok(Ordering::Less) => b"0\t-1\n",
-        Ok(Ordering::Equal) => b"0\t0\n",
-        Ok(Ordering::Greater) => b"0\t1\n",
-        Err(NotOrdered) => b"11\t0\n",
-    }
-}
-
-// The record behind what stands in the output: how much stands there then.
-fn put(out: &mut [u8], at: usize, record: &[u8]) -> usize
-    requires { at + length «record».now ≤ length out.old }
-    ensures { result ≡ at + length «record».now }
-{
-    let end = at + record.len();
+    let end = at + N;
     out[at..end].copy_from_slice(record);
     end
+}
+
+// The record of an answer, put in the same way.
+fn put_answer(out: &mut [u8], at: usize, answer: Result<Ordering, NotOrdered>) -> usize
+    requires { at + 5 ≤ length out.old }
+    ensures { result ≤ at + 5 }
+{
+    match answer {
+        Ok(Ordering::Less) => put(out, at, b"0\t-1\n"),
+        Ok(Ordering::Equal) => put(out, at, b"0\t0\n"),
+        Ok(Ordering::Greater) => put(out, at, b"0\t1\n"),
+        Err(NotOrdered) => put(out, at, b"11\t0\n"),
+    }
 }
 
 // The records of a block; what is left of a pair is 8, MalformedBytes.
@@ -44,7 +45,7 @@ fn records(block: &[u8], out: &mut [u8; BLOCK]) -> usize
     for pair in values.chunks_exact(2) {
         let first = Decimal128::from_bytes(pair[0]);
         let second = Decimal128::from_bytes(pair[1]);
-        end = put(out, end, record_of(first.compare(second)));
+        end = put_answer(out, end, first.compare(second));
     }
     if block.len() % 32 != 0 {
         end = put(out, end, b"8\t-\n");

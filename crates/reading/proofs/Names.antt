@@ -3,7 +3,7 @@ use mathlib.Core.Path.{◌≡◌, refl}
 use mathlib.Core.Bool.{cond}
 use Prim.Native.Nat.{ℕ, zero, suc, ◌≤◌, ◌<◌}
 use native.Mathlib.Omega.{arith}
-use lib.Dec.{eqb}
+use lib.Dec.{eqb, lit<}
 use denote.Enum.Declared.{tag_of}
 use Rattle.meaning.specs.Refusals as meaning
 use Rattle.meaning.specs.Refusals.{number_of}
@@ -45,6 +45,21 @@ number_of_lem (suc (suc (suc (suc (suc (suc (suc (suc zero)))))))) h l = refl
 number_of_lem (suc (suc (suc (suc (suc (suc (suc (suc (suc zero))))))))) h l = refl
 number_of_lem (suc (suc (suc (suc (suc (suc (suc (suc (suc (suc zero)))))))))) h l = refl
 number_of_lem (suc (suc (suc (suc (suc (suc (suc (suc (suc (suc (suc n))))))))))) h l = absurd (omega arith)
+
+-- no refusal has the number 0
+pub number_some : (r : meaning.Refusal) → 0 < number_of r
+unfolding number_of
+number_some empty_exponent = lit< tt
+number_some invalid_exponent = lit< tt
+number_some invalid_coefficient = lit< tt
+number_some overflow = lit< tt
+number_some underflow = lit< tt
+number_some inexact_rounding = lit< tt
+number_some unparseable = lit< tt
+number_some malformed_bytes = lit< tt
+number_some no_room = lit< tt
+number_some line_too_long = lit< tt
+number_some not_ordered = lit< tt
 
 -- the reader's refusals have the names of their numbers, at which they stand in the enum
 pub named_at : (r : Refusal) → named r ≡ name_at (suc (tag_of the_type r))

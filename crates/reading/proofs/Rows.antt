@@ -206,8 +206,12 @@ module _ (l : List ℕ) (c i sum zeros room : ℕ) (r : Row l c) (few : length l
           small = rw next (omega (arith, a.small, few-byte));
         }
 
+  -- eight digits make the most room
+  pub room-most : i ≤ 8 → room ≤ 100000000
+  room-most h = rw a.power (pow-le {j = 8} h)
+
   -- and all of them at once behind c
-  pub few_end : i ≡ length l → (k : ℕ) {p : ℕ} → p + 2 ^ 128 * k ≡ c * room + (sum - zeros) → p ≡ number c l
-  few_end e k q =
+  pub few_end : i ≡ length l → (k : ℕ) {p by : ℕ} → by ≡ room → p + 2 ^ 128 * k ≡ c * by + (sum - zeros) → p ≡ number c l
+  few_end e k m q =
       let whole : take i l ≡ l = rw e (take-length l) in
-      row_pushed l c r k (a.power ∙ ap (λ (n : ℕ). 10 ^ n) e) (omega (arith, rw whole at a.added)) q
+      row_pushed l c r k (m ∙ a.power ∙ ap (λ (n : ℕ). 10 ^ n) e) (omega (arith, rw whole at a.added)) q

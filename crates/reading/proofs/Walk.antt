@@ -126,6 +126,9 @@ pub record ZerosAt (p i t : ℕ) (s : List ℕ) (k : ℕ) : Type 0 where
   pub strip : strip_zeros (run p i t s) ≡ strip_zeros (run p k t s)
   pub zeros : all_zeros (run p i t s) ≡ all_zeros (run p k t s)
 
+pub zeros_none : (p i t : ℕ) (s : List ℕ) → i ≤ t → ZerosAt p i t s i
+zeros_none p i t s h = record { after = omega arith; within = h; strip = refl; zeros = refl }
+
 module _ (p i t k : ℕ) (s : List ℕ) (z : ZerosAt p i t s k) (h : k < t) (l : t ≤ length s) where
   pub zeros_point : k ≡ p → ZerosAt p i t s (k + 1)
   zeros_point e =

@@ -1,28 +1,46 @@
 -- The point in a text of digits, two ways: the digits are written one byte further on, and those before the point are then moved
 -- back; or those behind the point are written first, then the point and those before it.
-use mathlib.Core.Path.{◌≡◌, refl, sym, ap, ◌∙◌}
+use mathlib.Core.Path.{◌≡◌, refl, sym, ap, subst, ◌∙◌}
 use mathlib.Core.List.{List, [], ◌∷◌, ◌++◌, append_assoc}
 use Prim.Native.Nat.{ℕ, ◌+◌, ◌-◌, ◌/◌, ◌^◌, ◌≤◌, ◌<◌}
 use native.Mathlib.Omega.{arith}
-use lib.ListN.{length, take, drop, set, length-append, length-drop}
-use lib.Seq.{length-take-le, take_at, drop_at, drop-drop, take-append-le, take-take, drop-append-le}
-use Rattle.std.specs.List.{copy_within}
+use lib.ListN.{length, take, drop, set, get_or, length-append, length-drop}
+use lib.Seq.{length-take-le, take_at, drop_at, drop-drop, get_or-drop, take-append-le, take-take, drop-append-le}
 use Rattle.writing.specs.Pieces.{low}
 use Rattle.writing.specs.Written.{written}
-use Rattle.writing.proofs.Written.{written_one, length-written, written-before, follow}
+use Rattle.writing.proofs.Written.{written_one, length-written, written-next, written-before, follow}
 use Rattle.writing.proofs.Low.{length-low, low_split}
 
--- m bytes go one to the left, and the point behind them
-pub point_put : (at m : ℕ) (b : List ℕ) {c : List ℕ} → at + m < length b → c ≡ copy_within b (at + 1) (at + 1 + m) at →
-    set c (at + m) 46 ≡ written at (take m (drop (at + 1) b) ++ 46 ∷ []) b
+-- a write leaves what stands beyond it
+beyond : (at r : ℕ) (s b : List ℕ) → at ≤ length b → get_or (written at s b) (at + length s + r) 0 ≡ get_or b (at + length s + r) 0
 unfolding written
-point_put at m b {c} h e =
-    let s = take m (drop (at + 1) b) in
-    let n : length s ≡ m = length-take-le m (drop (at + 1) b) (simp length-drop (omega arith)) in
-    let d : at + 1 + m - (at + 1) ≡ m = omega arith in
-    let moved : c ≡ written at s b = e ∙ rw (d, n) (simp append_assoc) in
-    let l : length c ≡ length b = ap length moved ∙ length-written at s b (omega arith) in
-    follow at (at + m) s (46 ∷ []) b moved (written_one (at + m) 46 c (omega arith)) (rw n) (omega arith)
+beyond at r s b h =
+    let p : length (take at b ++ s) ≡ at + length s = length-append (take at b) s ∙ rw (length-take-le at b h) in
+    rw (← append_assoc (take at b) s (drop (at + length s) b), ← get_or-drop (at + length s) (take at b ++ s ++ drop (at + length s) b) r 0, drop_at (take at b ++ s) (drop (at + length s) b) (at + length s) p)
+    (get_or-drop (at + length s) b r 0)
+
+-- one more of the bytes from at + 1 on goes one to the left
+pub push_left : (at i : ℕ) (b₀ : List ℕ) {b : List ℕ} → b ≡ written at (take i (drop (at + 1) b₀)) b₀ → at + i + 1 < length b₀ →
+    set b (at + i) (get_or b (at + i + 1) 0) ≡ written at (take (i + 1) (drop (at + 1) b₀)) b₀
+push_left at i b₀ {b} l r =
+    let s = drop (at + 1) b₀ in
+    let k : length s ≡ length b₀ - (at + 1) = length-drop (at + 1) b₀ in
+    let n : length (take i s) ≡ i = length-take-le i s (omega arith) in
+    let p : get_or b (at + i + 1) 0 ≡ get_or b₀ (at + i + 1) 0 =
+    rw l (subst (λ (j : ℕ). get_or (written at (take i s) b₀) (at + j + 1) 0 ≡ get_or b₀ (at + j + 1) 0) n (beyond at 1 (take i s) b₀ (omega arith))) in
+    let q : at + i + 1 ≡ at + 1 + i = omega arith in
+    let e : get_or b (at + i + 1) 0 ≡ get_or s i 0 = p ∙ ap (λ (j : ℕ). get_or b₀ j 0) q ∙ sym (get_or-drop (at + 1) b₀ i 0) in
+    rw e (written-next at i s b₀ l (omega arith) (omega arith))
+
+-- the point behind them
+pub push_point : (at m i : ℕ) (b₀ : List ℕ) {b : List ℕ} → i ≡ m → b ≡ written at (take i (drop (at + 1) b₀)) b₀ → at + m < length b₀ →
+    set b (at + m) 46 ≡ written at (take m (drop (at + 1) b₀) ++ 46 ∷ []) b₀
+push_point at m i b₀ {b} e l r =
+    let s = take m (drop (at + 1) b₀) in
+    let n : length s ≡ m = length-take-le m (drop (at + 1) b₀) (simp length-drop (omega arith)) in
+    let moved : b ≡ written at s b₀ = rw e at l in
+    let k : length b ≡ length b₀ = ap length moved ∙ length-written at s b₀ (omega arith) in
+    follow at (at + m) s (46 ∷ []) b₀ moved (written_one (at + m) 46 b (omega arith)) (rw n) (omega arith)
 
 -- ---- the digits ds from at + 1 on, and the first m of them moved
 

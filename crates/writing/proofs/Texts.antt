@@ -9,7 +9,7 @@ use native.Mathlib.Omega.{arith}
 use lib.Dec.{leb}
 use lib.ListN.{length, take, set, get_or, replicate, length-append, length-drop, length-replicate}
 use lib.Seq.{length-take-le, take-suc, take_all}
-use borrow.Author.Tests.{lt-ltb, le-ltb, le-leb, lt-leb}
+use borrow.Author.Tests.{lt-ltb, le-ltb, ne_eqb, le-leb, lt-leb}
 use Rattle.meaning.specs.Reading.{bytes}
 use Rattle.meaning.specs.Writing.{decimal, plain, magnitude, signed, hex_digit, hexes, debug_text}
 use Rattle.meaning.proofs.Numbers.{le_or}
@@ -79,6 +79,15 @@ module _ (ds : List ℕ) where
   length_power f e t = omega (arith, t.count, length-append (head ds) (tail f))
 
   -- ---- which notation
+
+  pub plain_whole : (p : ℕ) → p ≡ 0 → plain ds p ≡ ds
+  plain_whole p e = rw e
+
+  pub plain_pointed : (p : ℕ) → (p ≡ 0 → ⊥) → p < length ds → plain ds p ≡ point_at (length ds - p) ds
+  plain_pointed p z h = simp (ne_eqb p 0 z, lt-leb (length ds) p h)
+
+  pub plain_small : (p : ℕ) → (p ≡ 0 → ⊥) → length ds ≤ p → plain ds p ≡ 48 ∷ 46 ∷ replicate (p - length ds) 48 ++ ds
+  plain_small p z h = simp (ne_eqb p 0 z, le-leb (length ds) p h)
 
   pub magnitude-plain : (e : ℕ) → e ≤ 6176 → 6171 ≤ e + length ds → magnitude ds e ≡ plain ds (6176 - e)
   unfolding magnitude

@@ -42,11 +42,14 @@ pub fn put_zeros(buf: &mut [u8], at: usize, count: usize)
     buf[at..at + count].fill(b'0');
 }
 
-// The `before` bytes from at + 1 on go one to the left, and a point behind them: `_12345` -> `12.345`.
+// The `before` bytes from at + 1 on go one to the left, and a point behind them: `_12345` -> `12.345`. By `copy_within` the library
+// for C would need `memmove` from outside.
 pub(crate) fn put_point(buf: &mut [u8], at: usize, before: usize)
     requires { at + before < length buf.old }
     ensures { buf.new ≡ written at (take before (drop (at + 1) buf.old) ++ 46 ∷ []) buf.old }
 {
-    buf.copy_within(at + 1..at + 1 + before, at);
+    for i in 0..before {
+        buf[at + i] = buf[at + i + 1];
+    }
     buf[at + before] = b'.';
 }

@@ -1,7 +1,7 @@
 use mathlib.Core.Path.{◌≡◌}
 use native.Mathlib.Omega.{arith}
 use lib.ListN.{length}
-use Rattle.reading.proofs.Rows.{few_none, few-bounds, few-more, few_end}
+use Rattle.reading.proofs.Rows.{few_none, few-bounds, few-more, room-most, few_end}
 use Rattle.reading.proofs.run.push_few.Goals as goal
 
 pub loop-digit-init : goal.loop-digit-init
@@ -23,4 +23,5 @@ loop-digit-preserved c =
 pub returns : goal.returns
 returns c =
     let all : c.loop-digit.digit-index ≡ length c.args.digits.now = omega arith in
-    few_end _ _ _ _ _ _ c.requires.row c.requires.few c.loop-digit.invariant all _ c.multiply.ensures
+    let most = room-most _ _ _ _ _ _ c.requires.row c.requires.few c.loop-digit.invariant (omega (arith, c.requires.few)) in
+    few_end _ _ _ _ _ _ c.requires.row c.requires.few c.loop-digit.invariant all _ (grind (arith, most)) c.multiply.ensures
